@@ -28,9 +28,6 @@ IsPlacedAs bytes made = IsAccepted bytes made.list made.placed
 abbrev pub list_framing : Listing → Placement → Framing
 list_framing list placed = record { rate = list.rate; columns = columns_of list placed; count = list.frames }
 
-abbrev pub framing_of : PlacedList → Framing
-framing_of made = list_framing made.list made.placed
-
 -- `pairs` puts a line for each frame
 abbrev pub lines_of : Framing → List ℕ
 lines_of framing = pair_lines framing.columns 0 framing.count
@@ -71,6 +68,6 @@ pub record IsSoundPairs (made : PlacedList) : Type 0 where
 -- reset before the first frame shows the list, and the delay of each window cue is sent
 pub record IsSoundWords (made : PlacedList) : Type 0 where
   pub frames : IsSoundFrames made.list.rate made.list.frames (columns_of made.list made.placed)
-  pub shares : AreSharesKept made.list.rate (share_in made.list) made.list.frames (packets_of (framing_of made))
-  pub shows : ShowsFrames (list_told made.list) (list_grids made.list) (list_windows made.list) made.list.frames (packets_of (framing_of made))
+  pub shares : AreSharesKept made.list.rate (share_in made.list) made.list.frames (built_packets made.list made.placed)
+  pub shows : ShowsFrames (list_told made.list) (list_grids made.list) (list_windows made.list) made.list.frames (built_packets made.list made.placed)
   pub delayed : AreDelaysSent made.list made.placed

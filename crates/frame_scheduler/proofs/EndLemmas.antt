@@ -37,9 +37,9 @@ use Rattle.field_lanes.specs.FieldLane.{field_lane}
 use Rattle.field_lanes.specs.LaneDoubling.{AreEnded}
 use Rattle.field_lanes.specs.LaneEvents.{event_at}
 use Rattle.field_lanes.specs.LaneTimeline.{lane_timeline, stands}
-use Rattle.frame_scheduler.specs.Planned.{Placement, captions_in, channel_pair, chunks_in, frame_blocks, service_bytes, service_lane_of, services, share_in}
+use Rattle.frame_scheduler.specs.Planned.{captions_in, channel_pair, chunks_in, frame_blocks, service_bytes, service_lane_of, services, share_in}
 use Rattle.frame_scheduler.specs.SlotLists.{slot_cues, slots_in_list}
-use Rattle.field_lanes.specs.Timeline.{repeat_at, slot}
+use Rattle.field_lanes.specs.Timeline.{slot}
 use Rattle.frame_scheduler.specs.declared.frames.FrameBytes.{FrameBytes}
 use Rattle.field_lanes.specs.declared.chunk.FieldChunk.{FieldChunk}
 use Rattle.field_lanes.proofs.DoublingLemmas.{free_none, lane_ended, over_cases, unit_begins}

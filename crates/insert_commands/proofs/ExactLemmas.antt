@@ -34,7 +34,7 @@ use Rattle.words_reading.specs.Causes.{IsAnyhow, IsRefusedWith, IsShort, PassesL
 use Rattle.words_reading.specs.Reading.{Stops}
 use Rattle.words_files.proofs.FramesOfLemmas.{file_frames, frames_grow}
 use Rattle.words_files.specs.FramesOf.{AreFramesOf}
-use Rattle.words_files.specs.Offences.{IsFileUnder, IsMalformed}
+use Rattle.words_files.specs.Offences.{IsFileUnder, IsMalformed, IsUnoffending}
 use Rattle.services_files.specs.CaptionChannel.{caption_channel}
 use Rattle.insert_commands.specs.InsertAnswer.{HaltsInserting, InsertAnswer, InsertsWhole, IsHalt, OfAcceptedList, SaysInserted}
 use Rattle.insert_commands.specs.InsertSteps.{halt_status}
@@ -61,7 +61,7 @@ never_refused text list placed side later old new answer known accepted is =
 abbrev AnswersWords : Listing → Placement → Ends → Ends → Status → Type 0
 AnswersWords list placed old new status.Ok = InsertsWhole list placed old new
 AnswersWords list placed old new status.Memory = ⊤
-AnswersWords list placed old new (status.Limit limit.Bytes) = Stops (SaysInserted (list_framing list placed)) PassesLimit put.Done old new
+AnswersWords list placed old new (status.Limit limit.Bytes) = Stops (SaysInserted (list_framing list placed)) (PassesLimit (IsUnoffending caption_channel)) put.Done old new
 AnswersWords list placed old new (status.Limit limit.Packet) = Stops (HaltsInserting (list_framing list placed) halt.Packet) IsAnyhow put.Done old new
 AnswersWords list placed old new (status.Malformed (Byte place) why) =
     Stops (SaysInserted (list_framing list placed)) (IsRefusedWith (record { place = place; why = why }) old.left) put.Done old new

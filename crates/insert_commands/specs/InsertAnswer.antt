@@ -22,7 +22,7 @@ use Rattle.findings.specs.declared.finding.Kind45.TheVariants as kind
 use Rattle.frame_scheduler.specs.Planned.{Placement}
 use Rattle.packet_inserter.specs.Insertion.{IsInserted, packet_length}
 use Rattle.words_files.specs.FramesOf.{AreFramesOf}
-use Rattle.words_files.specs.Offences.{IsFileUnder}
+use Rattle.words_files.specs.Offences.{IsFileUnder, IsUnoffending}
 use Rattle.services_files.specs.CaptionChannel.{caption_channel}
 use Rattle.inserted_words.specs.InsertedFile.{AreInserted, BringsFrame}
 use Rattle.cue_list_commands.specs.Output.{list_framing}
@@ -91,13 +91,13 @@ InsertAnswer side later old new status.Usage = ⊥
 InsertAnswer side later old new status.ReadFault =
     (Rose side.faults later.faults × TakesWithin whole_limit side.left later.left × (new ≡ old))
     ⊎ ((later.faults ≡ side.faults) × Rose old.read_faults new.read_faults × (new.write_faults ≡ old.write_faults)
-    × StopsInserting SaysInserted (λ list. HasNoOffence) put.Done side old new)
+    × StopsInserting SaysInserted (λ list. HasNoOffence (IsUnoffending caption_channel)) put.Done side old new)
 InsertAnswer side later old new status.WriteFault =
     (later.faults ≡ side.faults) × (new.read_faults ≡ old.read_faults) × Rose old.write_faults new.write_faults
     × StopsInserting (λ list. SaysFront (SaysInserted list) (HaltsInserting list)) (λ list. IsAnyhow) put.Failed side old new
 InsertAnswer side later old new status.Memory = (later.faults ≡ side.faults) × (new ≡ old)
 InsertAnswer side later old new (status.Limit limit.Bytes) =
-    RefusesSide IsRefused side later old new (status.Limit limit.Bytes) ⊎ InsertIsStopped SaysInserted (λ list. PassesLimit) side later old new
+    RefusesSide IsRefused side later old new (status.Limit limit.Bytes) ⊎ InsertIsStopped SaysInserted (λ list. PassesLimit (IsUnoffending caption_channel)) side later old new
 InsertAnswer side later old new (status.Limit limit.Packet) = InsertIsStopped (λ list. HaltsInserting list halt.Packet) (λ list. IsAnyhow) side later old new
 InsertAnswer side later old new (status.Malformed (Byte place) why) =
     InsertIsStopped SaysInserted (λ list. IsRefusedWith (record { place = place; why = why }) old.left) side later old new

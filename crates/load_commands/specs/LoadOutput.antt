@@ -1,9 +1,10 @@
 -- Believed: the program's answer stands on these definitions.
 -- What `load` puts: how many captions its list has, and what came of the list as it was planned, carried and received.
 use Rattle.std.specs.Prelude.{◌≡◌, ℕ, ◌+◌, if◌then◌else◌, List, [], ◌∷◌, ◌++◌, length, codes, decimal}
+use Rattle.programmes.specs.Framing.{words_of}
 use Rattle.cc_base.specs.Texts.{text}
 use Rattle.cdp_packets.specs.Packets.{Frame}
-use Rattle.cue_list_commands.specs.Output.{build_output, built_packets}
+use Rattle.cue_list_commands.specs.Output.{built_packets, list_framing}
 use Rattle.frame_scheduler.specs.Planned.{IsListPlaced, Placement}
 use Rattle.grid_print.specs.GridTexts.{screens_differ}
 use Rattle.grid_print.specs.Screens.{received_screens}
@@ -31,5 +32,5 @@ pub record IsSummaryOf (count : ℕ) (summary : Summary) : Type 0 where
   pub placement : IsListPlaced (load_list count) placed
   pub cues : summary.cues ≡ count
   pub frames : summary.frames ≡ (load_list count).frames
-  pub bytes : summary.bytes ≡ length (build_output (load_list count) placed)
+  pub bytes : summary.bytes ≡ length (words_of (list_framing (load_list count) placed))
   pub changes : summary.changes ≡ change_count [] (built_packets (load_list count) placed)

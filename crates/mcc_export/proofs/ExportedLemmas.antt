@@ -15,7 +15,8 @@ use Rattle.time_codes.specs.declared.counting.Counting.TheVariants as counting
 use Rattle.words_files.specs.Offences.{IsFileUnder}
 use Rattle.mcc_export.proofs.PlacingLemmas.{head_written, placed_caption, placed_foreign, written_more}
 use Rattle.mcc_export.specs.ExportMcc.{IsMccOf}
-use Rattle.mcc_export.specs.Exported.{AreExportedAsMcc, HasRate, HaveOneRate, IsOfBytes, counts_rate, expected_rate}
+use Rattle.mcc_export.specs.Exported.{AreExportedAsMcc, HaveOneRate, IsOfBytes, counts_rate, expected_rate}
+use Rattle.mcc_export.specs.ExportSteps.{HasRate}
 use Rattle.mcc_export.specs.Placing.{placed}
 use Rattle.mcc_export.specs.declared.start.Start.{Start}
 
@@ -35,7 +36,7 @@ caption_of_bytes packet bytes is caption =
     All-weaker (IsUserWord packet) (λ word. IsEightBit (word % 256) word) (λ word has. has.caption caption) packet.user is.is_packet.has_user
 
 -- frames of one rate, and one more of a rate that is expected
-one_rate : (count : Counting) (frames : List Frame) (last : Frame) → HaveOneRate count frames → HasRate count frames last.rate → HaveOneRate count (frames ++ last ∷ [])
+pub one_rate : (count : Counting) (frames : List Frame) (last : Frame) → HaveOneRate count frames → HasRate count frames last.rate → HaveOneRate count (frames ++ last ∷ [])
 one_rate count [] last have has =
     record { one = last.rate; counted = has; all = All-cons (λ f. f.rate ≡ last.rate) last [] refl (All-nil (λ f. f.rate ≡ last.rate)) }
 one_rate count (first ∷ frames) last have (counted, same) =

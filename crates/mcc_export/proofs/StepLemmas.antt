@@ -32,10 +32,10 @@ use Rattle.words_reading.specs.Causes.{words_limit}
 use Rattle.words_reading.specs.Judging.{HasGathered, HasStopped, IsReady, StepJudges}
 use Rattle.words_reading.specs.declared.judge.Stop.{Stop}
 use Rattle.words_reading.specs.declared.judge.Stop.TheVariants as stop
-use Rattle.mcc_export.proofs.ExportedLemmas.{mcc_caption, mcc_foreign, mcc_nothing, mcc_same}
+use Rattle.mcc_export.proofs.ExportedLemmas.{mcc_caption, mcc_foreign, mcc_nothing, mcc_same, one_rate}
 use Rattle.mcc_export.specs.ExportMcc.{HaltsMcc, IsMccOf, SaysMcc}
 use Rattle.mcc_export.specs.ExportSteps.{AddsLine, HasJudged, HasReadWords, IsAnyPacket, IsCaptionPacket, IsStoppedBy, StandsBehind, WritesCaption, WritesForeign, stop_status}
-use Rattle.mcc_export.specs.Exported.{Brings, IsFoundAtPacket, StopsAtPacket}
+use Rattle.mcc_export.specs.Exported.{Brings, HaveOneRate, IsFoundAtPacket, StopsAtPacket}
 use Rattle.mcc_export.specs.declared.clock.Clock.{Clock}
 use Rattle.mcc_export.specs.declared.stop.MccStop.{MccStop}
 use Rattle.mcc_export.specs.declared.stop.MccStop.TheVariants as reason
@@ -110,12 +110,13 @@ stops_foreign start frames clock number packet line (reason.Found finding) isnt 
     stops_found start frames packet finding number kind.EightBits is same (isnt, not_of_bytes)
 stops_foreign start frames clock number packet line reason.Day isnt same writes = absurd writes
 
-stops_caption : (start : Start) (frames : List Frame) (packet : AncillaryPacket) (last : Frame) (why : MccStop) → Brings packet last → IsStoppedBy start frames last.rate why
+stops_caption : (start : Start) (frames : List Frame) (packet : AncillaryPacket) (last : Frame) (why : MccStop) → HaveOneRate start.count frames → Brings packet last
+    → IsStoppedBy start frames last.rate why
     → StopsAtPacket start frames packet (stop_status why)
-stops_caption start frames packet last (reason.Found finding) brings (expected, wrong, is) =
+stops_caption start frames packet last (reason.Found finding) rates brings (expected, wrong, is) =
     stops_found start frames packet finding (length frames) (kind.WrongRate expected last.rate) is refl (last, brings, refl, wrong)
-stops_caption start frames packet last reason.Day brings (has_rate, past) =
-    record { frame = last; brings = brings; has_rate = has_rate; past = past }
+stops_caption start frames packet last reason.Day rates brings (has_rate, past) =
+    record { frame = last; brings = brings; rates = one_rate start.count frames last rates has_rate; past = past }
 
 -- a packet's line was added, or a put failed
 pub line_read : (now then : Option (List ℕ)) (held after line before bytes : List ℕ) (used : ℕ) (mid new : Exporting) (result : Result ℕ (Stop MccStop))
@@ -286,4 +287,4 @@ module _ (start : Start) (begun now : Option (List ℕ)) (held before bytes : Li
     halted_caption clock line why is_caption writes =
         let is = caption_of is_caption in
         halted why is.packet is.is is.unoffending
-        (stops_caption start frames is.packet is.frame why (record { is_caption = is.is_caption; carries = is.carries }) writes)
+        (stops_caption start frames is.packet is.frame why had.judged.says.mcc.fit.rates (record { is_caption = is.is_caption; carries = is.carries }) writes)

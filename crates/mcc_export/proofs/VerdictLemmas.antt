@@ -38,7 +38,8 @@ use Rattle.words_reading.specs.Answers.{StopsOwn}
 use Rattle.words_reading.specs.Causes.{IsAnyhow, IsRefusedWith, IsWholeFile, words_limit}
 use Rattle.words_reading.specs.Reading.{Stops}
 use Rattle.mcc_export.specs.ExportMcc.{ExportMccAnswer, HaltsMcc, SaysMcc, StopsBehind}
-use Rattle.mcc_export.specs.Exported.{AreExportedAsMcc, Brings, HasRate, IsFoundAtPacket, IsOfBytes, IsPastDay, IsUnlikeFirst, IsWrongRate, StopsAtPacket, counts_rate}
+use Rattle.mcc_export.specs.ExportSteps.{HasRate}
+use Rattle.mcc_export.specs.Exported.{AreExportedAsMcc, Brings, HaveOneRate, IsFoundAtPacket, IsOfBytes, IsPastDay, IsUnlikeFirst, IsWrongRate, StopsAtPacket, counts_rate}
 use Rattle.mcc_export.specs.Verdict.{FileIsExported, LongIsAnswered, MalformedIsAnswered, StopIsAnswered}
 use Rattle.mcc_export.specs.declared.start.Start.{Start}
 
@@ -161,6 +162,14 @@ module _ (start : Start) (why : Status) (front : List ℕ) (stops : StopsBehind 
           file_has_no_offence caption_channel others front refusal under
           (subst (λ l. FirstOffendingWord caption_channel l refusal) (sym longer) (offence_stays caption_channel judged behind refusal offence))
 
+-- the last of frames of one rate has a rate that is expected
+last_has : (count : Counting) (frames : List Frame) (last : Frame) → HaveOneRate count (frames ++ last ∷ []) → HasRate count frames last.rate
+last_has count [] last rates = ap (counts_rate count) (All-head (λ f. f.rate ≡ rates.one) last [] rates.all) ∙ rates.counted
+last_has count (first ∷ frames) last rates =
+    let P : Frame → Type 0 = λ f. f.rate ≡ rates.one in
+    let is : last.rate ≡ rates.one = all_at P (first ∷ frames) last [] rates.all in
+    (ap (counts_rate count) is ∙ rates.counted, is ∙ sym (All-head P first (frames ++ last ∷ []) rates.all))
+
 -- a rate that is expected isn't a wrong one
 right_not_wrong : (count : Counting) (frames : List Frame) (expected seen : Rate) → HasRate count frames seen → IsWrongRate count frames expected seen → ⊥
 right_not_wrong count [] expected seen has (inl (uncounted, _)) = cc
@@ -199,7 +208,7 @@ found_once count frames packet _ other_kind one other = absurd one
 found_not_past : (start : Start) (frames : List Frame) (packet : AncillaryPacket) (found : Kind45) → IsFoundAtPacket start.count frames packet found → IsPastDay start frames packet → ⊥
 found_not_past start frames packet (kind.WrongRate a b) (frame, brings, b_is, wrong) past =
     let same : past.frame.rate ≡ b = ap (λ (f : Frame). f.rate) (same_frame packet past.frame frame past.brings brings) ∙ sym b_is in
-    right_not_wrong start.count frames a b (subst (HasRate start.count frames) same past.has_rate) wrong
+    right_not_wrong start.count frames a b (subst (HasRate start.count frames) same (last_has start.count frames past.frame past.rates)) wrong
 found_not_past start frames packet kind.EightBits (isnt, _) past = isnt past.brings.is_caption
 found_not_past start frames packet _ found past = absurd found
 

@@ -23,7 +23,7 @@ use Rattle.words_files.specs.Offences.{IsUnoffending}
 use Rattle.words_reading.specs.declared.judge.Stop.{Stop}
 use Rattle.words_reading.specs.declared.judge.Stop.TheVariants as stop
 use Rattle.mcc_export.specs.ExportMcc.{SaysMcc}
-use Rattle.mcc_export.specs.Exported.{HasRate, IsOfBytes, IsWrongRate, counts_rate, expected_rate}
+use Rattle.mcc_export.specs.Exported.{IsOfBytes, IsWrongRate, counts_rate, expected_rate}
 use Rattle.mcc_export.specs.declared.clock.Clock.{Clock}
 use Rattle.mcc_export.specs.declared.stop.MccStop.{MccStop}
 use Rattle.mcc_export.specs.declared.stop.MccStop.TheVariants as reason
@@ -73,6 +73,11 @@ TellsRate count before seen None = (counts_rate count seen ≡ true) × IsRateBe
 TellsRate count before seen (Some expected) =
     ((counts_rate count seen ≡ false) × (expected ≡ expected_rate count))
     ⊎ ((counts_rate count seen ≡ true) × (before ≡ Some expected) × (seen ≢ expected))
+
+-- a frame behind others has a rate that is expected
+abbrev pub HasRate : Counting → List Frame → Rate → Type 0
+HasRate count [] seen = counts_rate count seen ≡ true
+HasRate count (first ∷ frames) seen = (counts_rate count seen ≡ true) × (seen ≡ first.rate)
 
 -- a packet of captions of this rate stops an export behind these frames
 abbrev pub IsStoppedBy : Start → List Frame → Rate → MccStop → Type 0

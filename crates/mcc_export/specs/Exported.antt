@@ -1,7 +1,7 @@
 -- Believed: the program's answer stands on these definitions.
 -- Which packets an MCC file carries, and what stands against others: packets of captions of one rate, which is one of those that time
 -- codes of the file's count can count, and within the day; and other packets whose user words are 8-bit words.
-use Rattle.std.specs.Prelude.{◌≡◌, ◌≢◌, ◌+◌, ◌%◌, ◌≤◌, ◌⊎◌, Bool, true, false, List, [], ◌∷◌, length}
+use Rattle.std.specs.Prelude.{◌≡◌, ◌≢◌, ◌+◌, ◌%◌, ◌≤◌, ◌⊎◌, Bool, true, false, List, [], ◌∷◌, ◌++◌, length}
 use Rattle.std.specs.List.{All}
 use Rattle.anc_words.specs.EightBitWords.{IsEightBit}
 use Rattle.anc_words.specs.Packets.{AncillaryPacket, IsCaption, user_bytes}
@@ -81,16 +81,11 @@ IsFoundAtPacket count frames packet (kind.WrongRate expected seen) =
 IsFoundAtPacket count frames packet kind.EightBits = (IsCaption packet → ⊥) × (IsOfBytes packet → ⊥)
 IsFoundAtPacket count frames packet _ = ⊥
 
--- a frame behind others has a rate that is expected
-abbrev pub HasRate : Counting → List Frame → Rate → Type 0
-HasRate count [] seen = counts_rate count seen ≡ true
-HasRate count (first ∷ frames) seen = (counts_rate count seen ≡ true) × (seen ≡ first.rate)
-
--- the packet is one of captions with such a rate, for which the day has no frame
+-- the packet is one of captions with the rate of the frames before it, for which the day has no frame
 pub record IsPastDay (start : Start) (frames : List Frame) (packet : AncillaryPacket) : Type 0 where
   pub frame : Frame
   pub brings : Brings packet frame
-  pub has_rate : HasRate start.count frames frame.rate
+  pub rates : HaveOneRate start.count (frames ++ frame ∷ [])
   pub past : day_frames_in start.count ≤ start.first + length frames
 
 -- an export stops with this status at a packet behind these frames: something is found at it, or the day has no frame for it

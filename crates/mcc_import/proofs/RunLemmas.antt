@@ -1,6 +1,7 @@
 -- What `import-mcc` answers, where the file was read to its end or the reading stopped before.
 use Rattle.std.proofs.Common.{◌≡◌, ℕ, inl, inr, List, [], Option, Result, Ok, Err, refl, sym, ◌∙◌, subst}
 use Rattle.std.specs.Io.KnownBytes.{Appends}
+use Rattle.mcc_import.specs.Offences.{IsWithoutOffence}
 use Rattle.cc_base.specs.Streams.{Puts, Rose}
 use Rattle.cc_base.specs.declared.refusal.Refusal.{Refusal}
 use Rattle.cc_base.specs.declared.limit_of.LimitOf.{LimitOf}
@@ -10,13 +11,13 @@ use Rattle.command_base.specs.Ends.{Ends, IsSteady, ends}
 use Rattle.command_base.specs.declared.status.Status.{Status}
 use Rattle.command_base.specs.declared.status.Status.TheVariants as status
 use Rattle.words_reading.proofs.WayLemmas.{all_put, way_flushed, way_unwritten}
-use Rattle.words_reading.specs.Causes.{Cause, IsAnyhow, IsWholeInput}
+use Rattle.words_reading.specs.Causes.{Cause, IsAnyhow, IsWholeInput, PassesLimit}
 use Rattle.words_reading.specs.Judging.{SaysFront}
 use Rattle.words_reading.specs.Reading.{Stops}
 use Rattle.words_reading.specs.Statuses.{stop_status as status_of}
 use Rattle.words_reading.specs.declared.judge.Stop.{Stop}
 use Rattle.words_reading.specs.declared.judge.Stop.TheVariants as stopped
-use Rattle.mcc_import.specs.ImportMcc.{EndsInput, HaltsImport, HasEndedLine, ImportMccAnswer, PassesInput, SaysImport}
+use Rattle.mcc_import.specs.ImportMcc.{EndsInput, HaltsImport, HasEndedLine, ImportMccAnswer}
 use Rattle.mcc_import.specs.Imported.{IsMccImport, PassesAtPacket, SaysLines}
 use Rattle.mcc_import.specs.Importing.{HaltsWhere, Holds, PutsHeld, PutsRest, ReadsFile}
 use Rattle.mcc_import.specs.Stops.{stop_status}
@@ -59,9 +60,9 @@ puts_all Says Why first left begun now then reads later writes still last held h
 
 -- a put of them fails
 pub puts_front : (Says : List ℕ → List ℕ → Type 0) (Why : Cause) (first left begun now then : Option (List ℕ)) (reads later writes still last : ℕ) (held : List ℕ)
-    → ((bytes words : List ℕ) → Says bytes words → SaysFront SaysImport HaltsImport bytes words)
+    → ((bytes words : List ℕ) → Says bytes words → SaysFront (λ (bytes text : List ℕ). SaysLines bytes text ⊎ IsMccImport bytes text) HaltsImport bytes words)
     → Holds Says Why (ends first reads begun writes) (ends left later now still) held → Puts now then put.Failed held
-    → Stops (SaysFront SaysImport HaltsImport) IsAnyhow put.Failed (ends first reads begun writes) (ends left later then last)
+    → Stops (SaysFront (λ (bytes text : List ℕ). SaysLines bytes text ⊎ IsMccImport bytes text) HaltsImport) IsAnyhow put.Failed (ends first reads begun writes) (ends left later then last)
 puts_front Says Why first left begun now then reads later writes still last held says had fails = record {
   judged = had.judged;
   unjudged = had.unjudged;
@@ -120,12 +121,12 @@ module _ (first left begun now then : Option (List ℕ)) (reads later writes sti
       → Held now still then last held (Err stopped.Limit) result → ImportMccAnswer (ends first reads begun writes) (ends left later then last) (result_status result)
   limit_answered result (steady, had) (put_all same none appended) =
       answer_is first left begun then reads later writes last result (Err stopped.Limit) same
-      (steady_on first left begun now then reads later writes still last steady none, inl (puts_all SaysLines PassesInput first left begun now then reads later writes still last held had appended))
+      (steady_on first left begun now then reads later writes still last steady none, inl (puts_all SaysLines (PassesLimit IsWithoutOffence) first left begun now then reads later writes still last held had appended))
   limit_answered result (steady, had) (failed same rose fails) =
       answer_is first left begun then reads later writes last result (Err stopped.WriteFault) same (
         steady.reads,
         rose_on writes still last steady.writes rose,
-        puts_front SaysLines PassesInput first left begun now then reads later writes still last held (λ bytes words is. inl (inl is)) had fails,
+        puts_front SaysLines (PassesLimit IsWithoutOffence) first left begun now then reads later writes still last held (λ bytes words is. inl (inl is)) had fails,
       )
 
   refused_answered : (refusal : Refusal) (result : Result (Unit {0}) (Stop MccStop)) → ReadsFile (ends first reads begun writes) (ends left later now still) held (Err (stopped.Refused refusal))

@@ -15,9 +15,9 @@ use Rattle.mcc_files.proofs.Refused.{no_offence}
 use Rattle.scc_files.specs.Offences.{EndsLine}
 use Rattle.words_files.proofs.WordLemmas.{front_of}
 use Rattle.words_reading.proofs.KnownLemmas.{known_judged, known_whole, long_front, never_whole}
-use Rattle.words_reading.specs.Causes.{IsAnyhow, IsWholeInput, words_limit}
+use Rattle.words_reading.specs.Causes.{IsAnyhow, IsWholeInput, words_limit, PassesLimit}
 use Rattle.words_reading.specs.Reading.{Stops}
-use Rattle.mcc_import.specs.ImportMcc.{HasEndedLine, EndsInput, PassesInput, RefusesAt}
+use Rattle.mcc_import.specs.ImportMcc.{HasEndedLine, EndsInput, RefusesAt}
 use Rattle.mcc_import.specs.Imported.{IsMccImport, PassesAtPacket, SaysLines}
 use Rattle.mcc_import.specs.Offences.{IsFirstOffence, IsMccCutShort, IsWithoutOffence, Offends}
 use Rattle.mcc_imported.proofs.LimitLemmas.{lines_pass_none, never_passed, one_import, one_limit}
@@ -25,7 +25,7 @@ use Rattle.mcc_imported.proofs.OffenceLemmas.{no_import_offends, offends_stays, 
 use Rattle.mcc_imported.specs.Verdict.{FileIsImported, FirstOffenceIsAnswered, LimitIsAnswered, LongIsAnswered, NoLinePasses, OthersAreRefused, PassesWithin, RefusalsAreFirst}
 
 -- no more bytes than the limit pass it
-none_past : (bytes : List ℕ) (old new : Ends) → length bytes ≤ words_limit → IsReadOf bytes old new → Stops SaysLines PassesInput put.Done old new → ⊥
+none_past : (bytes : List ℕ) (old new : Ends) → length bytes ≤ words_limit → IsReadOf bytes old new → Stops SaysLines (PassesLimit IsWithoutOffence) put.Done old new → ⊥
 none_past bytes old new within read stops =
     let known = known_judged old.left new.left bytes stops.judged stops.unjudged read.left stops.taken in
     let at_limit = stops.cause.0 in
@@ -189,7 +189,7 @@ cut_before bytes which refusal old new p read stops =
     ]
 
 limit_before : (bytes : List ℕ) (which : LimitOf) (old new : Ends) (p : PassesWithin which bytes) → length p.front ≤ words_limit → IsReadOf bytes old new
-    → Stops SaysLines PassesInput put.Done old new → ⊥
+    → Stops SaysLines (PassesLimit IsWithoutOffence) put.Done old new → ⊥
 limit_before bytes which old new p within read stops = by_end p.ended
   where
     known : (rest : List ℕ) × (bytes ≡ stops.judged ++ (stops.unjudged ++ rest))
@@ -223,9 +223,9 @@ limit_answered bytes which old new (status.Malformed (Byte place) why) p within 
 limit_answered bytes which old new _ p within read answered = absurd answered
 
 -- bytes past the limit
-long_fine : (bytes : List ℕ) (old new : Ends) → IsReadOf bytes old new → Stops SaysLines PassesInput put.Done old new → IsWithoutOffence (take words_limit bytes)
+long_fine : (bytes : List ℕ) (old new : Ends) → IsReadOf bytes old new → Stops SaysLines (PassesLimit IsWithoutOffence) put.Done old new → IsWithoutOffence (take words_limit bytes)
 long_fine bytes old new read stops =
-    let front = long_front SaysLines PassesInput put.Done bytes old new read stops in
+    let front = long_front SaysLines (PassesLimit IsWithoutOffence) put.Done bytes old new read stops in
     let at_limit = stops.cause.0 in
     let long = length-take-most words_limit bytes in
     let size = ap length front.1 ∙ length-append stops.judged front.0 in

@@ -1,7 +1,6 @@
 -- The words of packets, one packet after another.
 use Rattle.std.proofs.Common.{◌≡◌, ℕ, suc, ◌+◌, ◌%◌, inl, inr, true, false, List, [], ◌∷◌, ◌++◌, append_assoc, append-nil, Option, Some, None, refl, ap, sym, ◌∙◌, subst, add-one}
 use Rattle.anc_words.specs.Writing.{packet_bytes}
-use Rattle.cc_base.specs.declared.rate.Rate.{Rate}
 use Rattle.mcc_files.specs.MccFiles.{TimedPackets}
 use Rattle.mcc_payloads.specs.Payloads.{Payload}
 use Rattle.mcc_payloads.specs.PayloadWords.{payload_words}

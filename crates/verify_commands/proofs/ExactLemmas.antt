@@ -21,7 +21,7 @@ use Rattle.cue_types.specs.Listing.{Listing}
 use Rattle.findings.specs.declared.finding.Finding.{Finding}
 use Rattle.words_files.proofs.FramesOfLemmas.{file_frames, frames_grow, frames_of_once}
 use Rattle.words_files.specs.FramesOf.{AreFramesOf}
-use Rattle.words_files.specs.Offences.{IsFileUnder, IsMalformed}
+use Rattle.words_files.specs.Offences.{IsFileUnder, IsMalformed, IsUnoffending}
 use Rattle.services_files.specs.CaptionChannel.{caption_channel}
 use Rattle.words_files.proofs.FrontLemmas.{TwoFronts, before_it, behind_it, same, two_fronts}
 use Rattle.words_reading.proofs.KnownLemmas.{known_frames, known_judged, known_no_file, known_whole, long_front, long_offends, long_passes, malformed_no_file, never_whole, one_malformed, refused_behind, refused_so, within_passes}
@@ -49,7 +49,7 @@ never_refused text list side later old new answer known good is =
 abbrev AnswersWords : Listing → Ends → Ends → Status → Type 0
 AnswersWords list old new status.Ok = Stops (FindsNothing list ok_line) (HasEnough list.frames old.left) put.Done old new
 AnswersWords list old new status.Memory = ⊤
-AnswersWords list old new (status.Limit limit.Bytes) = Stops (FindsNothing list []) PassesLimit put.Done old new
+AnswersWords list old new (status.Limit limit.Bytes) = Stops (FindsNothing list []) (PassesLimit (IsUnoffending caption_channel)) put.Done old new
 AnswersWords list old new (status.Malformed (Byte place) why) = Stops (FindsNothing list []) (IsRefusedWith (record { place = place; why = why }) old.left) put.Done old new
 AnswersWords list old new (status.Differs finding) = Stops (FindsFirst list finding) IsAnyhow put.Done old new
 AnswersWords list old new (status.Short count) = Stops (FindsNothing list []) (IsShort list.frames count old.left) put.Done old new
@@ -67,7 +67,7 @@ words_answered text bytes list side later old new status.WriteFault good side_is
 words_answered text bytes list side later old new (status.Limit limit.Bytes) good side_is read (inl is) =
     absurd (never_refused text list side later old new (status.Limit limit.Bytes) side_is.left good is)
 words_answered text bytes list side later old new (status.Limit limit.Bytes) good side_is read (inr is) =
-    list_known text side list (λ (l : Listing). Stops (FindsNothing l []) PassesLimit put.Done old new) side_is.left good is.3
+    list_known text side list (λ (l : Listing). Stops (FindsNothing l []) (PassesLimit (IsUnoffending caption_channel)) put.Done old new) side_is.left good is.3
 words_answered text bytes list side later old new (status.Malformed (Byte place) why) good side_is read is =
     list_known text side list (λ (l : Listing). Stops (FindsNothing l []) (IsRefusedWith (record { place = place; why = why }) old.left) put.Done old new) side_is.left good is.3
 words_answered text bytes list side later old new (status.Differs finding) good side_is read is =

@@ -1,7 +1,7 @@
 -- Believed: the program's answer stands on these definitions.
 -- What `verify` answers: each status has its cause, and what was put, in one place. The side file's cue list is read to its end first;
 -- then the bytes of a words file are judged in order, up to the limit, and before more are taken.
-use Rattle.std.specs.Prelude.{◌≡◌, ◌<◌, ◌≤◌, ◌⊎◌, ℕ, List, [], length, Option, IfSome, codes}
+use Rattle.std.specs.Prelude.{◌≡◌, ◌<◌, ◌≤◌, ◌⊎◌, ℕ, List, [], length, IfSome, codes}
 use Rattle.std.specs.Io.KnownBytes.{Appends}
 use Rattle.cc_base.specs.Streams.{Puts, Rose, TakesWithin, whole_limit}
 use Rattle.cc_base.specs.declared.limit_of.LimitOf.TheVariants as limit
@@ -19,7 +19,7 @@ use Rattle.findings.specs.First.{IsFirstTried}
 use Rattle.findings.specs.declared.finding.Finding.{Finding}
 use Rattle.cue_list_commands.specs.SideEnds.{SideEnds}
 use Rattle.cue_list_commands.specs.SideLists.{RefusesSide}
-use Rattle.words_files.specs.Offences.{IsFileUnder}
+use Rattle.words_files.specs.Offences.{IsUnoffending}
 use Rattle.services_files.specs.CaptionChannel.{caption_channel}
 use Rattle.words_reading.specs.Causes.{Cause, HasEnough, HasNoOffence, IsAnyhow, IsRefusedWith, IsShort, PassesLimit}
 use Rattle.words_reading.specs.FrameTexts.{FramesHalt, FramesSay}
@@ -60,7 +60,7 @@ VerifyAnswer side later old new status.Usage = ⊥
 VerifyAnswer side later old new status.ReadFault =
     (Rose side.faults later.faults × TakesWithin whole_limit side.left later.left × (new ≡ old))
     ⊎ ((later.faults ≡ side.faults) × Rose old.read_faults new.read_faults × PutsNothing old new
-    × OfGoodList side (λ list. Stops (FindsNothing list []) HasNoOffence put.Done old new))
+    × OfGoodList side (λ list. Stops (FindsNothing list []) (HasNoOffence (IsUnoffending caption_channel)) put.Done old new))
 VerifyAnswer side later old new status.WriteFault =
     (later.faults ≡ side.faults) × (new.read_faults ≡ old.read_faults) × Rose old.write_faults new.write_faults
     × Puts old.written new.written put.Failed ok_line
@@ -68,7 +68,7 @@ VerifyAnswer side later old new status.WriteFault =
 VerifyAnswer side later old new status.Memory = (later.faults ≡ side.faults) × (new ≡ old)
 VerifyAnswer side later old new (status.Limit limit.Bytes) =
     RefusesSide IsRefusedList side later old new (status.Limit limit.Bytes)
-    ⊎ VerifyIsStopped (λ list. FindsNothing list []) (λ list. PassesLimit) side later old new
+    ⊎ VerifyIsStopped (λ list. FindsNothing list []) (λ list. PassesLimit (IsUnoffending caption_channel)) side later old new
 VerifyAnswer side later old new (status.Malformed (Byte place) why) =
     VerifyIsStopped (λ list. FindsNothing list []) (λ list. IsRefusedWith (record { place = place; why = why }) old.left) side later old new
 VerifyAnswer side later old new (status.Differs finding) = VerifyIsStopped (λ list. FindsFirst list finding) (λ list. IsAnyhow) side later old new

@@ -68,7 +68,7 @@ one_malformed bytes refusal other (inr cut) (inr more) = same_refusal refusal ot
 
 -- no more bytes than the limit pass it
 pub within_passes : (Says : List ℕ → List ℕ → Type 0) (bytes : List ℕ) (answer : Put) (old new : Ends) → length bytes ≤ words_limit → IsReadOf bytes old new
-    → Stops Says PassesLimit answer old new → ⊥
+    → Stops Says (PassesLimit (IsUnoffending caption_channel)) answer old new → ⊥
 within_passes Says bytes answer old new within read stops =
     let (rest, is) = known_judged old.left new.left bytes stops.judged stops.unjudged read.left stops.taken in
     let at_limit = stops.cause.0 in
@@ -155,7 +155,7 @@ long_offends Says bytes refusal old new past read stops =
     ]
 
 -- no word within it does
-pub long_passes : (Says : List ℕ → List ℕ → Type 0) (bytes : List ℕ) (old new : Ends) → words_limit < length bytes → IsReadOf bytes old new → Stops Says PassesLimit put.Done old new
+pub long_passes : (Says : List ℕ → List ℕ → Type 0) (bytes : List ℕ) (old new : Ends) → words_limit < length bytes → IsReadOf bytes old new → Stops Says (PassesLimit (IsUnoffending caption_channel)) put.Done old new
     → IsUnoffending caption_channel (take words_limit bytes)
 long_passes Says bytes old new past read stops =
     let (rest, is) = known_judged old.left new.left bytes stops.judged stops.unjudged read.left stops.taken in

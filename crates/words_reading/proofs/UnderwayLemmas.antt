@@ -68,7 +68,7 @@ take_failed HasJudged Says Halts first left after start now reads later writes s
     let said = says taken had.text had.judged in (
       rose,
       same,
-      all_judged Says HasNoOffence first left after start now reads later writes still room taken had.text consumed within keeps said.0 had.appended (refl, said.1),
+      all_judged Says (HasNoOffence (IsUnoffending caption_channel)) first left after start now reads later writes still room taken had.text consumed within keeps said.0 had.appended (refl, said.1),
     )
 
 -- the input is a words file

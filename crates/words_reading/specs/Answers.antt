@@ -30,10 +30,10 @@ StopsOwn Halts old new answer = IsOwn answer × IsSteady old new × Stops (Halts
 -- how a run ends before the end of a words file
 abbrev pub StopsEarlyAs : (List ℕ → List ℕ → Type 0) → (Status → List ℕ → List ℕ → Type 0) → Ends → Ends → Status → Type 0
 StopsEarlyAs Says Halts old new status.ReadFault =
-    Rose old.read_faults new.read_faults × (new.write_faults ≡ old.write_faults) × Stops Says HasNoOffence put.Done old new
+    Rose old.read_faults new.read_faults × (new.write_faults ≡ old.write_faults) × Stops Says (HasNoOffence (IsUnoffending caption_channel)) put.Done old new
 StopsEarlyAs Says Halts old new status.WriteFault =
     (new.read_faults ≡ old.read_faults) × Rose old.write_faults new.write_faults × Stops (SaysFront Says Halts) IsAnyhow put.Failed old new
-StopsEarlyAs Says Halts old new (status.Limit limit.Bytes) = IsSteady old new × Stops Says PassesLimit put.Done old new
+StopsEarlyAs Says Halts old new (status.Limit limit.Bytes) = IsSteady old new × Stops Says (PassesLimit (IsUnoffending caption_channel)) put.Done old new
 StopsEarlyAs Says Halts old new (status.Malformed (Byte place) why) =
     IsSteady old new × Stops Says (IsRefusedWith (record { place = place; why = why }) old.left) put.Done old new
 StopsEarlyAs Says Halts old new answer = StopsOwn Halts old new answer

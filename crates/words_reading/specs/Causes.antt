@@ -3,7 +3,7 @@
 use Rattle.std.specs.Prelude.{◌≡◌, ◌<◌, ◌≤◌, ◌⊎◌, ℕ, List, [], length, Option, IfSome}
 use Rattle.cc_base.specs.declared.refusal.Refusal.{Refusal}
 use Rattle.cdp_packets.specs.Packets.{Frame}
-use Rattle.words_files.specs.Offences.{FirstOffendingWord, IsCutShort, IsFileUnder, IsUnoffending}
+use Rattle.words_files.specs.Offences.{FirstOffendingWord, IsCutShort, IsFileUnder}
 use Rattle.services_files.specs.CaptionChannel.{caption_channel}
 
 -- the most bytes of a words file
@@ -33,13 +33,13 @@ IsShort least count left judged unjudged =
     IsWholeInput left judged unjudged
     × ((frames : List Frame) × IsFileUnder caption_channel frames judged × (count ≡ length frames) × (length frames < least))
 
--- no word of the bytes taken offends
-abbrev pub HasNoOffence : Cause
-HasNoOffence judged unjudged = (unjudged ≡ []) × IsUnoffending caption_channel judged
+-- nothing offends in the bytes taken, as this says
+abbrev pub HasNoOffence : (List ℕ → Type 0) → Cause
+HasNoOffence Unoffending judged unjudged = (unjudged ≡ []) × Unoffending judged
 
--- there is a byte past the limit, and no word within it offends
-abbrev pub PassesLimit : Cause
-PassesLimit judged unjudged = (length judged ≡ words_limit) × (0 < length unjudged) × IsUnoffending caption_channel judged
+-- there is a byte past the limit, and nothing within it offends, as this says
+abbrev pub PassesLimit : (List ℕ → Type 0) → Cause
+PassesLimit Unoffending judged unjudged = (length judged ≡ words_limit) × (0 < length unjudged) × Unoffending judged
 
 -- a word offends, or the whole input is cut short
 abbrev pub IsRefusedWith : Refusal → Option (List ℕ) → Cause

@@ -3,6 +3,8 @@
 -- judged in order, up to the limit, and their text is put before more are taken.
 use Rattle.std.specs.Prelude.{◌≡◌, ◌≤◌, ℕ, List, ◌++◌, length, Result, Ok, Err}
 use Rattle.std.specs.Io.KnownBytes.{Consumes}
+use Rattle.services_files.specs.CaptionChannel.{caption_channel}
+use Rattle.words_files.specs.Offences.{IsUnoffending}
 use Rattle.cc_base.specs.Streams.{Puts, Rose}
 use Rattle.cc_base.specs.declared.streams.Put.{Put}
 use Rattle.cc_base.specs.declared.streams.Put.TheVariants as put
@@ -27,10 +29,10 @@ pub record Stops (Says : List ℕ → List ℕ → Type 0) (Why : Cause) (answer
 -- how a reading stops before the end of a words file
 abbrev pub StopsEarly : {R : Type 0} → (List ℕ → List ℕ → Type 0) → (R → List ℕ → List ℕ → Type 0) → Ends → Ends → Stop R → Type 0
 StopsEarly Says Halts old new stop.ReadFault =
-    Rose old.read_faults new.read_faults × (new.write_faults ≡ old.write_faults) × Stops Says HasNoOffence put.Done old new
+    Rose old.read_faults new.read_faults × (new.write_faults ≡ old.write_faults) × Stops Says (HasNoOffence (IsUnoffending caption_channel)) put.Done old new
 StopsEarly Says Halts old new stop.WriteFault =
     (new.read_faults ≡ old.read_faults) × Rose old.write_faults new.write_faults × Stops (SaysFront Says Halts) IsAnyhow put.Failed old new
-StopsEarly Says Halts old new stop.Limit = IsSteady old new × Stops Says PassesLimit put.Done old new
+StopsEarly Says Halts old new stop.Limit = IsSteady old new × Stops Says (PassesLimit (IsUnoffending caption_channel)) put.Done old new
 StopsEarly Says Halts old new (stop.Refused refusal) = IsSteady old new × Stops Says (IsRefusedWith refusal old.left) put.Done old new
 StopsEarly Says Halts old new (stop.Own reason) = IsSteady old new × Stops (Halts reason) IsAnyhow put.Done old new
 

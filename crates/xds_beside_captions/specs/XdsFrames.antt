@@ -1,6 +1,6 @@
 -- Believed in part: the program's answer stands on some of these definitions.
 -- The frames of a cue list with packets of extended data in the slots of field 2 that its captions leave free.
-use Rattle.std.specs.Prelude.{◌≡◌, ℕ, ◌-◌, All, List, Option, Some, None, option_map, take}
+use Rattle.std.specs.Prelude.{◌≡◌, ℕ, ◌-◌, All, List, option_map, take}
 use Rattle.std.specs.Option.{option_map_or}
 use Rattle.cue_lists.specs.Listing.{IsFormed, Listing}
 use Rattle.cue_lists.specs.Rules.{IsRuled}
