@@ -29,11 +29,11 @@ fn gather_words<F: Frames + Drop, O: Sink>(programme: Programme<F>, out: &mut O)
     let mut gathered = Gathered::new();
     let mut carrier = Carrier::new(programme.rate);
     let mut frames = programme.frames;
+    let mut words = ArrayVec::new();
     while let Some(pairs) = frames.next() {
-        let mut words = ArrayVec::new();
         carrier.put_words(&pairs, &mut words);
         match gathered.add(&words, out) {
-            Put::Done => {}
+            Put::Done => words.clear(),
             Put::Failed => return Put::Failed,
         }
     }

@@ -39,11 +39,11 @@ pub fn put_words<F: Frames + Drop, O: Sink>(programme: Programme<F>, out: &mut O
 {
     let mut carrier = Carrier::new(programme.rate);
     let mut frames = programme.frames;
+    let mut words = ArrayVec::new();
     while let Some(pairs) = frames.next() {
-        let mut words = ArrayVec::new();
         carrier.put_words(&pairs, &mut words);
         match out.put(&words) {
-            Put::Done => {}
+            Put::Done => words.clear(),
             Put::Failed => return Put::Failed,
         }
     }
