@@ -173,9 +173,7 @@ fn are_units(alloc: Global, cue: &Cue, expected: &[&[u8]]) -> Result<bool, Alloc
 
 #[test]
 fn a_caption_is_its_window_its_place_its_pen_and_its_text(rt: HostRuntime) -> Result<(), Fail> {
-    let hello = run(rt.alloc(), 0, PLAIN, "HELLO", None)?;
-    let cue = cue(WINDOW, vec![in rt.alloc(); hello]?).ok_or("out of its ranges")?;
-    let expected: [&[u8]; 8] = [
+    const UNITS: &[&[u8]] = &[
         &[0x98, 0x18, 0x3C, 0x32, 0x00, 0x09, 0x09],
         &[0x92, 0x00, 0x00],
         &[0x90, 0x05, 0x00],
@@ -185,12 +183,21 @@ fn a_caption_is_its_window_its_place_its_pen_and_its_text(rt: HostRuntime) -> Re
         b"L",
         b"O",
     ];
-    assert!(rt; are_units(rt.alloc(), &cue, &expected)?);
+    let hello = run(rt.alloc(), 0, PLAIN, "HELLO", None)?;
+    let cue = cue(WINDOW, vec![in rt.alloc(); hello]?).ok_or("out of its ranges")?;
+    assert!(rt; are_units(rt.alloc(), &cue, UNITS)?);
     Ok(())
 }
 
 #[test]
 fn underlined_text_keeps_the_font_of_its_style(rt: HostRuntime) -> Result<(), Fail> {
+    const UNITS: &[&[u8]] = &[
+        &[0x9B, 0x18, 0x00, 0x00, 0x00, 0x07, 0x11],
+        &[0x92, 0x00, 0x00],
+        &[0x90, 0x05, 0x40],
+        b"T",
+        &[0x10, 0x25],
+    ];
     let window = WinCue {
         service: 2,
         id: 3,
@@ -206,19 +213,25 @@ fn underlined_text_keeps_the_font_of_its_style(rt: HostRuntime) -> Result<(), Fa
     };
     let two = run(rt.alloc(), 0, pen, "T…", None)?;
     let cue = cue(window, vec![in rt.alloc(); two]?).ok_or("out of its ranges")?;
-    let expected: [&[u8]; 5] = [
-        &[0x9B, 0x18, 0x00, 0x00, 0x00, 0x07, 0x11],
-        &[0x92, 0x00, 0x00],
-        &[0x90, 0x05, 0x40],
-        b"T",
-        &[0x10, 0x25],
-    ];
-    assert!(rt; are_units(rt.alloc(), &cue, &expected)?);
+    assert!(rt; are_units(rt.alloc(), &cue, UNITS)?);
     Ok(())
 }
 
 #[test]
 fn where_one_run_has_colours_each_run_is_sent_its_own(rt: HostRuntime) -> Result<(), Fail> {
+    const UNITS: &[&[u8]] = &[
+        &[0x98, 0x18, 0x3C, 0x32, 0x00, 0x09, 0x09],
+        &[0x97, 0xC0, 0xF0, 0x4E, 0x00],
+        &[0x92, 0x00, 0x00],
+        &[0x90, 0x05, 0x00],
+        &[0x91, 0x3C, 0xC0, 0x00],
+        b"H",
+        b"I",
+        &[0x92, 0x00, 0x04],
+        &[0x90, 0x05, 0x00],
+        &[0x91, 0x2A, 0x00, 0x00],
+        b"X",
+    ];
     let attributes = WinAttr {
         justify: 2,
         print: 0,
@@ -258,19 +271,6 @@ fn where_one_run_has_colours_each_run_is_sent_its_own(rt: HostRuntime) -> Result
     let hi = run(rt.alloc(), 0, PLAIN, "HI", Some(colors))?;
     let x = run(rt.alloc(), 4, PLAIN, "X", None)?;
     let cue = cue(window, vec![in rt.alloc(); hi, x]?).ok_or("out of its ranges")?;
-    let expected: [&[u8]; 11] = [
-        &[0x98, 0x18, 0x3C, 0x32, 0x00, 0x09, 0x09],
-        &[0x97, 0xC0, 0xF0, 0x4E, 0x00],
-        &[0x92, 0x00, 0x00],
-        &[0x90, 0x05, 0x00],
-        &[0x91, 0x3C, 0xC0, 0x00],
-        b"H",
-        b"I",
-        &[0x92, 0x00, 0x04],
-        &[0x90, 0x05, 0x00],
-        &[0x91, 0x2A, 0x00, 0x00],
-        b"X",
-    ];
-    assert!(rt; are_units(rt.alloc(), &cue, &expected)?);
+    assert!(rt; are_units(rt.alloc(), &cue, UNITS)?);
     Ok(())
 }

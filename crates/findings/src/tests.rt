@@ -5,7 +5,7 @@ use line21_codes::Chan;
 
 #[test]
 fn findings_have_the_reasons_40_to_46(rt: HostRuntime) {
-    for (kind, number, name) in [
+    const FINDINGS: &[(Kind45, u8, &str)] = &[
         (
             Kind45::CounterJump {
                 expected: 0,
@@ -39,7 +39,8 @@ fn findings_have_the_reasons_40_to_46(rt: HostRuntime) {
         ),
         (Kind45::TwoPairs(2), 45, "TwoPairs"),
         (Kind45::EightBits, 46, "EightBits"),
-    ] {
+    ];
+    for &(kind, number, name) in FINDINGS {
         assert_eq!(rt; kind.why().number(), number);
         assert_eq!(rt; kind.why().name(), name);
     }
@@ -47,14 +48,15 @@ fn findings_have_the_reasons_40_to_46(rt: HostRuntime) {
 
 #[test]
 fn misfits_have_their_names(rt: HostRuntime) {
-    for (kind, name) in [
+    const MISFITS: &[(MisfitKind, &str)] = &[
         (MisfitKind::Rate(5), "Rate"),
         (MisfitKind::Count(19), "Count"),
         (MisfitKind::One(2), "One"),
         (MisfitKind::Two(2), "Two"),
         (MisfitKind::Many(19), "Many"),
         (MisfitKind::Changed(Which::Service(1)), "Changed"),
-    ] {
+    ];
+    for &(kind, name) in MISFITS {
         assert_eq!(rt; kind.name(), name);
     }
 }

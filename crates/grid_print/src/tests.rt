@@ -166,8 +166,8 @@ fn a_gap_parts_runs(rt: HostRuntime) -> Result<(), AllocError> {
 #[test]
 fn pens_are_named(rt: HostRuntime) -> Result<(), AllocError> {
     // The preambles of row 15 of each colour, of the italic and of the underlined pens.
-    let cases = [
-        (0x94E0, b"frame 0\nCC1 1\n15 0 white A\n".as_slice()),
+    const PENS: &[(u16, &[u8])] = &[
+        (0x94E0, b"frame 0\nCC1 1\n15 0 white A\n"),
         (0x9462, b"frame 0\nCC1 1\n15 0 green A\n"),
         (0x9464, b"frame 0\nCC1 1\n15 0 blue A\n"),
         (0x94E6, b"frame 0\nCC1 1\n15 0 cyan A\n"),
@@ -178,7 +178,7 @@ fn pens_are_named(rt: HostRuntime) -> Result<(), AllocError> {
         (0x946D, b"frame 0\nCC1 1\n15 0 magenta-u A\n"),
         (0x94EF, b"frame 0\nCC1 1\n15 0 white-i-u A\n"),
     ];
-    for (preamble, text) in cases {
+    for &(preamble, text) in PENS {
         let shown = all_of(rt.alloc(), 0, &[0x9429, preamble, 0xC180], &[])?;
         assert_eq!(rt; shown.bytes(), text);
     }

@@ -97,7 +97,7 @@ fn offends(rt: &impl Abort, file: &[u8], place: usize, why: Why) {
 
 #[test]
 fn first_lines_are_read(rt: HostRuntime) {
-    let good: [&[u8]; 6] = [
+    const GOOD: &[&[u8]] = &[
         b"File Format=MacCaption_MCC V1.0",
         b"File Format=MacCaption_MCC V2.0",
         b"File Format=MacCaption_MCC V1.0  \r\n",
@@ -105,10 +105,7 @@ fn first_lines_are_read(rt: HostRuntime) {
         b"File Format=MacCaption_MCC V1.0\n\nUUID=\nTime Code Rate=60DF  \n//",
         b"File Format=MacCaption_MCC V1.0\nTime Code Rate=24",
     ];
-    for file in good {
-        has(&rt, file, &[]);
-    }
-    let bad: [(&[u8], usize, Why); 21] = [
+    const BAD: &[(&[u8], usize, Why)] = &[
         (b"", 0, Why::Header),
         (b"File", 4, Why::Header),
         (b"file Format", 0, Why::Header),
@@ -163,14 +160,17 @@ fn first_lines_are_read(rt: HostRuntime) {
             Why::MccSyntax,
         ),
     ];
-    for (file, place, why) in bad {
+    for &file in GOOD {
+        has(&rt, file, &[]);
+    }
+    for &(file, place, why) in BAD {
         offends(&rt, file, place, why);
     }
 }
 
 #[test]
 fn packets_are_read(rt: HostRuntime) {
-    let rows: [(&[u8], &[(u32, usize)]); 17] = [
+    const LINES: &[(&[u8], &[(u32, usize)])] = &[
         (b"", &[]),
         (b"\n \t \n", &[]),
         (b"//\n// a = b\n", &[]),
@@ -201,14 +201,14 @@ fn packets_are_read(rt: HostRuntime) {
         (b"00:00:00:00\tFA00020000FC", &[(0, 6)]),
         (b"UUID=1\n00:01:00:00\t8001Z81\n", &[(1_800, 4)]),
     ];
-    for (lines, packets) in rows {
+    for &(lines, packets) in LINES {
         has(&rt, &behind_head(lines), packets);
     }
 }
 
 #[test]
 fn lines_offend(rt: HostRuntime) {
-    let rows: [(&[u8], usize, Why); 46] = [
+    const LINES: &[(&[u8], usize, Why)] = &[
         (b"/", 51, Why::MccSyntax),
         (b"/ x", 51, Why::MccSyntax),
         (b"/\n", 51, Why::MccSyntax),
@@ -264,14 +264,14 @@ fn lines_offend(rt: HostRuntime) {
         (b"00:00:00:00\t80010177F9\rx", 73, Why::MccSyntax),
         (b"00:00:00:00\t8001Z81\n/", 71, Why::MccSyntax),
     ];
-    for (lines, place, why) in rows {
+    for &(lines, place, why) in LINES {
         offends(&rt, &behind_head(lines), place, why);
     }
 }
 
 #[test]
 fn counts_are_told_apart(rt: HostRuntime) {
-    let good: [(&[u8], u32); 8] = [
+    const GOOD: &[(&[u8], u32)] = &[
         (
             b"File Format=MacCaption_MCC V1.0\nTime Code Rate=24\n00:00:01:00\t8001Z81",
             24,
@@ -305,10 +305,7 @@ fn counts_are_told_apart(rt: HostRuntime) {
             1,
         ),
     ];
-    for (file, frame) in good {
-        has(&rt, file, &[(frame, 4)]);
-    }
-    let bad: [(&[u8], usize, Why); 8] = [
+    const BAD: &[(&[u8], usize, Why)] = &[
         (
             b"File Format=MacCaption_MCC V1.0\nTime Code Rate=30DF\n00:01:00;00\t",
             52,
@@ -350,7 +347,10 @@ fn counts_are_told_apart(rt: HostRuntime) {
             Why::MccSyntax,
         ),
     ];
-    for (file, place, why) in bad {
+    for &(file, frame) in GOOD {
+        has(&rt, file, &[(frame, 4)]);
+    }
+    for &(file, place, why) in BAD {
         offends(&rt, file, place, why);
     }
 }

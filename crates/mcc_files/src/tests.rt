@@ -13,7 +13,7 @@ const FRAME: [u8; 73] = [
 
 #[test]
 fn heads_name_the_count(rt: HostRuntime) {
-    let rows: [(Counting, &[u8]); 3] = [
+    const HEADS: &[(Counting, &[u8])] = &[
         (
             Counting::F30Drop,
             b"File Format=MacCaption_MCC V1.0\n\nUUID=00000000-0000-0000-0000-000000000000\nCreation Program=ccsuite\nCreation Date=Thursday, January 1, 1970\nCreation Time=00:00:00\nTime Code Rate=30DF\n\n",
@@ -27,7 +27,7 @@ fn heads_name_the_count(rt: HostRuntime) {
             b"File Format=MacCaption_MCC V1.0\n\nUUID=00000000-0000-0000-0000-000000000000\nCreation Program=ccsuite\nCreation Date=Thursday, January 1, 1970\nCreation Time=00:00:00\nTime Code Rate=25\n\n",
         ),
     ];
-    for (count, text) in rows {
+    for &(count, text) in HEADS {
         let mut out = ArrayVec::new();
         head(count, &mut out);
         assert_eq!(rt; out.as_slice(), text);

@@ -92,7 +92,7 @@ fn malformed(place: u64, why: Why) -> Status {
 
 #[test]
 fn files_are_imported(rt: HostRuntime) -> Result<(), AllocError> {
-    let rows: [(&[&str], &[u8]); 11] = [
+    const FILES: &[(&[&str], &[u8])] = &[
         (&["File Format=MacCaption_MCC V2.0"], &[]),
         (&[HEAD], &[]),
         (
@@ -173,7 +173,7 @@ fn files_are_imported(rt: HostRuntime) -> Result<(), AllocError> {
             &[0, 1, 0],
         ),
     ];
-    for (parts, counters) in rows {
+    for &(parts, counters) in FILES {
         ends(&rt, rt.alloc(), parts, Status::Ok, counters)?;
     }
     Ok(())
@@ -181,7 +181,7 @@ fn files_are_imported(rt: HostRuntime) -> Result<(), AllocError> {
 
 #[test]
 fn offences_are_told(rt: HostRuntime) -> Result<(), AllocError> {
-    let rows: [(&[&str], u64, Why, &[u8]); 12] = [
+    const FILES: &[(&[&str], u64, Why, &[u8])] = &[
         (&["File"], 4, Why::Header, &[]),
         (&["Scenarist_SCC V1.0"], 0, Why::Header, &[]),
         (&[HEAD, "00:01:00;00"], 54, Why::NoSuchTime, &[]),
@@ -215,7 +215,7 @@ fn offences_are_told(rt: HostRuntime) -> Result<(), AllocError> {
             &[],
         ),
     ];
-    for (parts, place, why, counters) in rows {
+    for &(parts, place, why, counters) in FILES {
         ends(&rt, rt.alloc(), parts, malformed(place, why), counters)?;
     }
     Ok(())

@@ -42,7 +42,7 @@ fn insert_into(
 // Packets of 29.97 frames a second with the counter 0102. Before flag 01 is set, and behind 43; the new section is 72 E1 FC 94 20.
 #[test]
 fn the_new_section_stands_in_its_place(rt: HostRuntime) {
-    let rows: [(&[u8], &[u8]); 5] = [
+    const SECTIONS: &[(&[u8], &[u8])] = &[
         // no section
         (
             b"\x96\x69\x0B\x4F\x01\x01\x02\x74\x01\x02\x2C",
@@ -69,7 +69,7 @@ fn the_new_section_stands_in_its_place(rt: HostRuntime) {
             b"\x96\x69\x18\x4F\x43\x01\x02\x75\x01\xAA\x72\xE1\xFC\x94\x20\x71\xC0\x80\x80\x80\x74\x01\x02\x09",
         ),
     ];
-    for (packet, wanted) in rows {
+    for &(packet, wanted) in SECTIONS {
         let mut out = ArrayVec::new();
         let answer = insert_into(packet, &[RESUME], &mut out);
         assert_eq!(rt; answer, Some(Ok(())));

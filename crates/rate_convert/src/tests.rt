@@ -291,8 +291,7 @@ fn words_now(alloc: Global, converter: &Converter) -> Result<Vec<u8>, AllocError
 
 #[test]
 fn a_frame_becomes_two_or_has_its_first_misfit(rt: HostRuntime) -> Result<(), AllocError> {
-    let alloc = rt.alloc();
-    let cases: [Case; 32] = [
+    const CASES: &[Case] = &[
         (AT_2997, &[(&[], 20)], Ok((&[], &[]))),
         (AT_2997, &[(&[ONE, TWO], 20)], Ok((&[ONE], &[TWO]))),
         // a frame without field 1, and without field 2, wherever the other stands
@@ -400,7 +399,8 @@ fn a_frame_becomes_two_or_has_its_first_misfit(rt: HostRuntime) -> Result<(), Al
             Err(MisfitKind::Two(3)),
         ),
     ];
-    for (place, (rate, sections, want)) in cases.iter().enumerate() {
+    let alloc = rt.alloc();
+    for (place, (rate, sections, want)) in CASES.iter().enumerate() {
         let mut converter = Converter::new(alloc)?;
         let words = words_of(alloc, *rate, 0x1234, sections)?;
         assert_eq!(rt;

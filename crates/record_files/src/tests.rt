@@ -7,7 +7,7 @@ use std::process::Abort;
 // A number is 1 to 10 decimal digits without a sign and without a leading zero, except 0 itself.
 #[test]
 fn numbers_are_their_decimal_digits(rt: HostRuntime) {
-    for (text, number) in [
+    const TEXTS: &[(&str, Option<u64>)] = &[
         ("0", Some(0)),
         ("9", Some(9)),
         ("10", Some(10)),
@@ -24,7 +24,8 @@ fn numbers_are_their_decimal_digits(rt: HostRuntime) {
         ("/", None),
         (":", None),
         ("10000000000", None),
-    ] {
+    ];
+    for &(text, number) in TEXTS {
         assert_eq!(rt; read_number(text.as_bytes()), number);
     }
 }

@@ -76,13 +76,7 @@ fn is_sent(mut lane: PlacedService, due: &[(u32, &[u8])]) -> bool
 fn units_come_from_load_on_by_the_share_and_the_delay_starts_before_show(
     rt: HostRuntime,
 ) -> Result<(), Fail> {
-    let text =
-        b"ccsuite,1,30,100\nshare,1,10\nwin,1,0,5,20,30,2,0,60,50,1,10,0,1,1\nrun,0,0,plain,HELLO\n";
-    let list = list_of(rt.alloc(), text)?;
-    let Ok(lane) = lane_of(rt.alloc(), &list, 10) else {
-        return Err(Fail::from("the caption has room"));
-    };
-    let due: [(u32, &[u8]); 4] = [
+    const DUE: &[(u32, &[u8])] = &[
         (
             5,
             &[0x98, 0x18, 0x3C, 0x32, 0x00, 0x09, 0x09, 0x92, 0x00, 0x00],
@@ -91,7 +85,13 @@ fn units_come_from_load_on_by_the_share_and_the_delay_starts_before_show(
         (14, &[0x8D, 0x02, 0x89, 0x01]),
         (30, &[0x8C, 0x01]),
     ];
-    assert!(rt; is_sent(lane, &due));
+    let text =
+        b"ccsuite,1,30,100\nshare,1,10\nwin,1,0,5,20,30,2,0,60,50,1,10,0,1,1\nrun,0,0,plain,HELLO\n";
+    let list = list_of(rt.alloc(), text)?;
+    let Ok(lane) = lane_of(rt.alloc(), &list, 10) else {
+        return Err(Fail::from("the caption has room"));
+    };
+    assert!(rt; is_sent(lane, DUE));
     Ok(())
 }
 
@@ -111,16 +111,7 @@ fn a_caption_has_no_room_where_its_frames_end_too_early(rt: HostRuntime) -> Resu
 // waits until it has ended.
 #[test]
 fn what_a_delay_has_no_room_for_waits_for_its_end(rt: HostRuntime) -> Result<(), Fail> {
-    let text = b"ccsuite,1,30,100\nshare,1,31\n\
-win,1,0,0,60,65,10,0,60,50,1,10,0,1,1\nrun,0,0,plain,A\n\
-win,1,1,31,70,80,0,0,60,50,4,32,0,1,1\n\
-run,0,0,plain,ABCDEFGHIJKLMNOPQRSTUVWXYZABCDEF\nrun,1,0,plain,ABCDEFGHIJKLMNOPQRSTUVWXYZABCDEF\n\
-run,2,0,plain,ABCDEFGHIJKLMNOPQRSTUVWXYZABCDEF\nrun,3,0,plain,ABCDEFGHIJKLMNOPQRSTUVWXYZABCDEF\n";
-    let list = list_of(rt.alloc(), text)?;
-    let Ok(lane) = lane_of(rt.alloc(), &list, 31) else {
-        return Err(Fail::from("the captions have room"));
-    };
-    let due: [(u32, &[u8]); 11] = [
+    const DUE: &[(u32, &[u8])] = &[
         (0, b"\x98\x18\x3C\x32\x00\x09\x09\x92\x00\x00\x90\x05\x00A"),
         (30, &[0x8D, 0x0A, 0x89, 0x01]),
         (
@@ -136,6 +127,15 @@ run,2,0,plain,ABCDEFGHIJKLMNOPQRSTUVWXYZABCDEF\nrun,3,0,plain,ABCDEFGHIJKLMNOPQR
         (70, &[0x89, 0x02]),
         (80, &[0x8C, 0x02]),
     ];
-    assert!(rt; is_sent(lane, &due));
+    let text = b"ccsuite,1,30,100\nshare,1,31\n\
+win,1,0,0,60,65,10,0,60,50,1,10,0,1,1\nrun,0,0,plain,A\n\
+win,1,1,31,70,80,0,0,60,50,4,32,0,1,1\n\
+run,0,0,plain,ABCDEFGHIJKLMNOPQRSTUVWXYZABCDEF\nrun,1,0,plain,ABCDEFGHIJKLMNOPQRSTUVWXYZABCDEF\n\
+run,2,0,plain,ABCDEFGHIJKLMNOPQRSTUVWXYZABCDEF\nrun,3,0,plain,ABCDEFGHIJKLMNOPQRSTUVWXYZABCDEF\n";
+    let list = list_of(rt.alloc(), text)?;
+    let Ok(lane) = lane_of(rt.alloc(), &list, 31) else {
+        return Err(Fail::from("the captions have room"));
+    };
+    assert!(rt; is_sent(lane, DUE));
     Ok(())
 }

@@ -75,6 +75,21 @@ fn other_times_have_no_frame(rt: HostRuntime) {
 
 #[test]
 fn texts_of_time_codes_are_read(rt: HostRuntime) {
+    const OTHERS: &[&str] = &[
+        "",
+        "01:23:45:0",
+        "01:23:45:067",
+        " 01:23:45:06",
+        "1:23:45:06",
+        "01:23:45.06",
+        "01:23;45:06",
+        "01;23:45:06",
+        "0a:23:45:06",
+        "01:23:45:0/",
+        "01:23:45:0:",
+        "-1:23:45:06",
+        "é1:23:45:6",
+    ];
     assert_eq!(rt; read_time("01:23:45:06"), Some(non_drop(1, 23, 45, 6)));
     assert_eq!(rt; read_time("01:23:45;06"), Some(drop_frame(1, 23, 45, 6)));
     assert_eq!(rt; read_time("99:99:99;99"), Some(drop_frame(99, 99, 99, 99)));
@@ -98,21 +113,7 @@ fn texts_of_time_codes_are_read(rt: HostRuntime) {
         drop_frame: true,
     };
     assert_eq!(rt; time_text(semicolon), *b"10:00:59;29");
-    for text in [
-        "",
-        "01:23:45:0",
-        "01:23:45:067",
-        " 01:23:45:06",
-        "1:23:45:06",
-        "01:23:45.06",
-        "01:23;45:06",
-        "01;23:45:06",
-        "0a:23:45:06",
-        "01:23:45:0/",
-        "01:23:45:0:",
-        "-1:23:45:06",
-        "é1:23:45:6",
-    ] {
+    for &text in OTHERS {
         assert_eq!(rt; read_time(text), None);
     }
 }
@@ -240,6 +241,9 @@ fn other_times_have_no_frame_at_a_rate(rt: HostRuntime) {
 
 #[test]
 fn rates_of_files_are_read(rt: HostRuntime) {
+    const OTHERS: &[&[u8]] = &[
+        b"", b"2", b"23", b"29.97", b"30df", b"30D", b"30DF ", b"24DF", b"60NDF", b"\xFF",
+    ];
     let texts: [&[u8]; 7] = [b"24", b"25", b"30", b"30DF", b"50", b"60", b"60DF"];
     let counts = [
         Counting::F24,
@@ -254,10 +258,7 @@ fn rates_of_files_are_read(rt: HostRuntime) {
         assert_eq!(rt; Counting::read(text), Some(count));
         assert_eq!(rt; count.text(), *text);
     }
-    let others: [&[u8]; 10] = [
-        b"", b"2", b"23", b"29.97", b"30df", b"30D", b"30DF ", b"24DF", b"60NDF", b"\xFF",
-    ];
-    for text in others {
+    for &text in OTHERS {
         assert_eq!(rt; Counting::read(text), None);
     }
 }

@@ -177,7 +177,7 @@ fn sections_are_split_one_after_another(rt: HostRuntime) {
 
 #[test]
 fn bytes_that_begin_with_no_whole_section_are_none(rt: HostRuntime) {
-    let fronts: [&[u8]; 12] = [
+    const FRONTS: &[&[u8]] = &[
         &[],
         &[0x72],
         &[0x70, 0x00],
@@ -191,7 +191,7 @@ fn bytes_that_begin_with_no_whole_section_are_none(rt: HostRuntime) {
         &[0xEF, 0x02, 0x00],
         &[0x00, 0x00, 0x00],
     ];
-    for (number, front) in fronts.iter().enumerate() {
+    for (number, front) in FRONTS.iter().enumerate() {
         assert_eq!(rt; split_section(front), None, "front {number}");
     }
 }
