@@ -1,5 +1,6 @@
-ghost use Rattle.std.specs.Prelude.{◌≡◌};
+ghost use Rattle.std.specs.Prelude.{◌≡◌, ◌∷◌, [], decimal};
 ghost use Rattle.cc_base.specs.Streams.{PutCause, Puts};
+ghost use Rattle.cc_base.specs.Texts.{text};
 ghost use Rattle.ccsuite_cli.specs.StatusLine.{status_line};
 
 use crate::command::USAGE;
@@ -24,41 +25,25 @@ pub fn put_status<E: Sink>(status: Status, err: &mut E) -> Put
         Status::Limit(limit) => put_pieces(&[b"limit ", limit.name().as_bytes(), b"\n"], err),
         Status::Malformed(place, why) => put_malformed(place, why, err),
         Status::Rule(fault) => put_rule(fault, err),
-        Status::NoRoom(cue) => put_pieces(
-            &[
-                b"no room: cue ",
-                Buffer::new().format(cue).as_bytes(),
-                b"\n",
-            ],
-            err,
-        ),
+        Status::NoRoom(cue) => put_numbered(b"no room: cue ", cue, b"\n", err),
         Status::Differs(finding) => put_finding(finding.frame, finding.kind, err),
-        Status::Short(frames) => put_pieces(
-            &[
-                b"short: ",
-                Buffer::new().format(frames).as_bytes(),
-                b" frames\n",
-            ],
-            err,
-        ),
-        Status::NoRoomBeside(second) => put_pieces(
-            &[
-                b"no room in CUES: cue ",
-                Buffer::new().format(second).as_bytes(),
-                b"\n",
-            ],
-            err,
-        ),
-        Status::NoXdsRoom(packet) => put_pieces(
-            &[
-                b"no room: packet ",
-                Buffer::new().format(packet).as_bytes(),
-                b"\n",
-            ],
-            err,
-        ),
+        Status::Short(frames) => put_numbered(b"short: ", frames, b" frames\n", err),
+        Status::NoRoomBeside(second) => put_numbered(b"no room in CUES: cue ", second, b"\n", err),
+        Status::NoXdsRoom(packet) => put_numbered(b"no room: packet ", packet, b"\n", err),
         Status::Misfit(misfit) => put_misfit(misfit.frame, misfit.kind, err),
     }
+}
+
+/// Puts a line with a number between two texts.
+fn put_numbered<E: Sink>(before: &[u8], number: u32, behind: &[u8], err: &mut E) -> Put
+    ensures bytes { Puts (E.written err.old) (E.written err.new) result
+        (text (before.now ∷ decimal number ∷ behind.now ∷ [])) }
+    ensures cause { PutCause (E.faults err.old) (E.faults err.new) result }
+{
+    put_pieces(
+        &[before, Buffer::new().format(number).as_bytes(), behind],
+        err,
+    )
 }
 
 /// Puts the line of a malformed input.

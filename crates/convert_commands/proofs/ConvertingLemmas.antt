@@ -13,7 +13,7 @@ use Rattle.findings.specs.declared.misfit.Misfit.{Misfit}
 use Rattle.halved_frames.specs.Conversion.{conversion_bytes}
 use Rattle.rate_convert.proofs.ConversionLemmas.{bytes_more}
 use Rattle.rate_convert.proofs.ConverterLemmas.{stands_behind}
-use Rattle.rate_convert.proofs.FitLemmas.{fit_none}
+use Rattle.rate_convert.proofs.FitLemmas.{fit_none, fit_of_none}
 use Rattle.rate_convert.proofs.OnceLemmas.{fit_among}
 use Rattle.rate_convert.specs.Converters.{HasConverted, StandsBehind, converter_misfit, input_of}
 use Rattle.rate_convert.specs.Halvers.{halves_words, misfit_of}
@@ -55,8 +55,8 @@ nothing_made converting had =
     let count = counted_nothing converting.converter.input had.received in
     let are = file_frames caption_channel [] [] nothing_is_file in
     record {
-      underway = record { converted = had; none = none_found [] [] converting.converter had are tt; unoffending = nothing_offends; few = omega arith };
-      says = record { frames = []; frames_are = are; fit = tt; text_is = refl };
+      underway = record { converted = had; none = none_found [] [] converting.converter had are fit_of_none; unoffending = nothing_offends; few = omega arith };
+      says = record { frames = []; frames_are = are; fit = fit_of_none; text_is = refl };
     }
 
 -- a front of the bytes was taken, and no frame has a misfit

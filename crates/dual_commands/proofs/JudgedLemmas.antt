@@ -1,5 +1,6 @@
 -- Every first list is accepted or refused beside a second one that keeps the rules.
 use Rattle.std.proofs.Common.{◌≡◌, ◌⊎◌, inl, inr, ℕ, List, [], ◌∷◌, Option, Some, None, option_map, ap, sym, refl, ◌∙◌, ◌==◌, true, arith}
+use Rattle.std.specs.Prelude.{is_some}
 use Rattle.std.specs.List.{find}
 use Rattle.std.proofs.lemmas.Bool.{cases_eq}
 use Rattle.std.proofs.lemmas.Bool.Decides.{nat_tests}
@@ -53,7 +54,7 @@ alike_decided one two = by_rate (rate_decided two.rate one.rate)
           | inl none ↦ inl (record { rate = rate; frames = frames; unshared = none })
           | inr some ↦ inr (
             record { rec = 2; field = 1 },
-            inr (inr (refl, refl, rate, frames, record { service = some.0; bytes = some.1; share = some.2 })),
+            inr (inr (refl, refl, rate, frames, (some.0, ap (λ o. is_some o) some.2))),
           )
         ]
 

@@ -1,5 +1,6 @@
 -- Two lists that keep the rules are refused with one status, and with none where they are placed together.
-use Rattle.std.proofs.Common.{◌≡◌, ℕ, Some, None, ap, sym, subst, refl, ◌∙◌, ◌⊎◌, inl, inr, arith}
+use Rattle.std.proofs.Common.{◌≡◌, ℕ, Some, true, false, ap, sym, subst, refl, ◌∙◌, ◌⊎◌, inl, inr, arith}
+use Rattle.std.specs.Prelude.{is_some}
 use Rattle.cc_base.specs.declared.why.Why.TheVariants as why
 use Rattle.command_base.specs.declared.status.Place.TheVariants.{Field}
 use Rattle.command_base.specs.declared.status.Status.{Status}
@@ -25,10 +26,9 @@ module _ (one two : Listing) where
   pub alike_unjudged : (at : OtherField) → AreAlike one two → IsJudged one two (Some at) → ⊥
   alike_unjudged at alike (inl rate) = rate.2 alike.rate
   alike_unjudged at alike (inr (inl frames)) = frames.3 alike.frames
-  alike_unjudged at alike (inr (inr share)) =
-      let none = alike.unshared share.4.service in
-      let some = share.4.share in
-      let wrong : None ≡ Some share.4.bytes = sym none ∙ some in absurd (cc)
+  alike_unjudged at alike (inr (inr (second, first, rates, lengths, (service, shared)))) =
+      let none = ap (λ o. is_some o) (alike.unshared service) in
+      let wrong : false ≡ true = sym none ∙ shared in absurd (cc)
 
   -- and others one
   pub other_once : (a b : OtherField) → IsJudged one two (Some a) → IsJudged one two (Some b) → a ≡ b

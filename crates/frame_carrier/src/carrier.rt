@@ -121,7 +121,12 @@ fn put_pairs(rate: Rate, counter: u16, frame: &FrameBytes, out: &mut ArrayVec<u8
         ≡ carried_words (triplets_packet rate counter (frame_triplets rate frame.now [])) }
 {
     match (rate.triplets(), frame.one, frame.two) {
-        (20, Some(one), Some(two)) => write_triplets(rate, counter, &twenty_triplets(one, two), out),
+        (20, Some(one), Some(two)) => write_triplets(
+            rate,
+            counter,
+            &twenty_triplets(one, two),
+            out,
+        ),
         (10, Some(one), None) => write_triplets(rate, counter, &ten_triplets(FIELD_1, one), out),
         (10, None, Some(two)) => write_triplets(rate, counter, &ten_triplets(FIELD_2, two), out),
         _ => write_triplets(rate, counter, &frame_triplets(rate, frame, &[]), out),

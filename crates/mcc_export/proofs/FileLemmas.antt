@@ -61,19 +61,18 @@ exported_file start frames file text is_file below mcc =
 words_from : (first captions : ℕ) (packets : List AncillaryPacket) (bytes : List ℕ) → IsWordsFile packets bytes → All IsOfBytes packets
     → words_as_they_came (packets_placed_from first captions packets) ≡ bytes
 words_from first captions [] bytes is eight = sym (empty_file bytes is)
-words_from first captions (packet ∷ packets) bytes is eight = by_test (carries_captions (payload_of packet))
+words_from first captions (packet ∷ packets) bytes is eight =
+    let (front, rest, spelled, is_packet, others) = IsWordsFile-first packet packets bytes is in
+    let written : front ≡ payload_words (payload_of packet) = (packet_is_payload packet front (All-head IsOfBytes packet packets eight) is_packet).1 in
+    by_test (carries_captions (payload_of packet)) (λ n.
+    let next = words_from first n packets rest others (All-tail IsOfBytes packet packets eight) in
+    ap (λ w. w ++ words_as_they_came (packets_placed_from first n packets)) (sym written) ∙ (ap (λ r. front ++ r) next ∙ sym spelled))
   where
-    more : (captions : ℕ) → payload_words (payload_of packet) ++ words_as_they_came (packets_placed_from first captions packets) ≡ bytes
-    more captions =
-        let (front, rest, spelled, is_packet, others) = IsWordsFile-first packet packets bytes is in
-        let written : front ≡ payload_words (payload_of packet) = (packet_is_payload packet front (All-head IsOfBytes packet packets eight) is_packet).1 in
-        let next = words_from first captions packets rest others (All-tail IsOfBytes packet packets eight) in
-        ap (λ w. w ++ words_as_they_came (packets_placed_from first captions packets)) (sym written) ∙ (ap (λ r. front ++ r) next ∙ sym spelled)
-
-    by_test : (test : Bool) → words_as_they_came (if test then (first + captions, payload_of packet) ∷ packets_placed_from first (captions + 1) packets
+    by_test : (test : Bool) → ((n : ℕ) → payload_words (payload_of packet) ++ words_as_they_came (packets_placed_from first n packets) ≡ bytes)
+        → words_as_they_came (if test then (first + captions, payload_of packet) ∷ packets_placed_from first (captions + 1) packets
         else (first + (captions - 1), payload_of packet) ∷ packets_placed_from first captions packets) ≡ bytes
-    by_test true = more (captions + 1)
-    by_test false = more captions
+    by_test true more = more (captions + 1)
+    by_test false more = more captions
 
 pub exported_words : (start : Start) (frames : List Frame) (file : List ℕ) (is_file : IsFileUnder caption_channel frames file)
     → AreExportedAsMcc start is_file.file.packets frames → words_as_they_came (placed start.first is_file.file.packets) ≡ file
@@ -93,12 +92,13 @@ close_from first captions last _ _ (foreign packet packets frames isnt carried) 
 -- their user bytes are bytes
 bytes_from : (first captions : ℕ) (packets : List AncillaryPacket) → HaveBytes (packets_placed_from first captions packets)
 bytes_from first captions [] = tt
-bytes_from first captions (packet ∷ packets) = by_test (carries_captions (payload_of packet))
+bytes_from first captions (packet ∷ packets) = by_test (carries_captions (payload_of packet)) (λ n. bytes_from first n packets)
   where
-    by_test : (test : Bool) → HaveBytes (if test then (first + captions, payload_of packet) ∷ packets_placed_from first (captions + 1) packets
+    by_test : (test : Bool) → ((n : ℕ) → HaveBytes (packets_placed_from first n packets))
+        → HaveBytes (if test then (first + captions, payload_of packet) ∷ packets_placed_from first (captions + 1) packets
         else (first + (captions - 1), payload_of packet) ∷ packets_placed_from first captions packets)
-    by_test true = (low_bytes packet.user, bytes_from first (captions + 1) packets)
-    by_test false = (low_bytes packet.user, bytes_from first captions packets)
+    by_test true more = (low_bytes packet.user, more (captions + 1))
+    by_test false more = (low_bytes packet.user, more captions)
 
 -- bytes are a file of one list of packets
 one_placed : (one other : TimedPackets) (result : Result TimedPackets Refusal) → result ≡ Ok one → result ≡ Ok other → one ≡ other

@@ -28,12 +28,16 @@ more_behind first captions _ _ last one (foreign packet packets frames isnt rest
 pub placed_caption : (first : ℕ) (packets : List AncillaryPacket) (frames : List Frame) (last : AncillaryPacket) → CarryFrames packets frames → IsCaption last
     → placed first (packets ++ last ∷ []) ≡ placed first packets ++ (first + length frames, payload_of last) ∷ []
 placed_caption first packets frames last carried is =
-    more_behind first 0 packets frames last (first + length frames, payload_of last) carried (rw (captions_true (payload_of last) is) refl)
+    let from : 0 + length frames ≡ length frames = omega arith in
+    more_behind first 0 packets frames last (first + length frames, payload_of last) carried
+    (rw (captions_true (payload_of last) is) (ap (λ (n : ℕ). (first + n, payload_of last) ∷ []) from))
 
 pub placed_foreign : (first : ℕ) (packets : List AncillaryPacket) (frames : List Frame) (last : AncillaryPacket) → CarryFrames packets frames → (IsCaption last → ⊥)
     → placed first (packets ++ last ∷ []) ≡ placed first packets ++ (first + (length frames - 1), payload_of last) ∷ []
 placed_foreign first packets frames last carried isnt =
-    more_behind first 0 packets frames last (first + (length frames - 1), payload_of last) carried (rw (captions_false (payload_of last) isnt) refl)
+    let from : 0 + length frames ≡ length frames = omega arith in
+    more_behind first 0 packets frames last (first + (length frames - 1), payload_of last) carried
+    (rw (captions_false (payload_of last) isnt) (ap (λ (n : ℕ). (first + (n - 1), payload_of last) ∷ []) from))
 
 -- one line more
 lines_more : (count : Counting) (before : TimedPackets) (frame : ℕ) (payload : Payload) (text line : List ℕ) → AreWrittenLines count before text

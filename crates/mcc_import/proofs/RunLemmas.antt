@@ -1,5 +1,5 @@
 -- What `import-mcc` answers, where the file was read to its end or the reading stopped before.
-use Rattle.std.proofs.Common.{◌≡◌, ℕ, inl, inr, List, [], Option, Result, Ok, Err, refl, sym, ◌∙◌, subst}
+use Rattle.std.proofs.Common.{◌≡◌, ◌⊎◌, ℕ, inl, inr, List, [], Option, Result, Ok, Err, refl, sym, ◌∙◌, subst}
 use Rattle.std.specs.Io.KnownBytes.{Appends}
 use Rattle.mcc_import.specs.Offences.{IsWithoutOffence}
 use Rattle.cc_base.specs.Streams.{Puts, Rose}

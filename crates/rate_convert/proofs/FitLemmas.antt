@@ -22,7 +22,7 @@ use Rattle.rate_convert.specs.Misfits.{AreFit, IsFit}
 
 -- a number that isn't below another
 pub at_least : (number least : ℕ) → (number < least → ⊥) → least ≤ number
-at_least number least no = elim (cases_lt number least) [ inl less ↦ absurd (no less) | inr more ↦ more ]
+at_least number least other = elim (cases_lt number least) [ inl less ↦ absurd (other less) | inr more ↦ more ]
 
 -- one frame more
 no_front : (frames : List Frame) (last next : Frame) (more earlier : List Frame) (frame : Frame) (later : List Frame) → frames ++ last ∷ [] ≡ earlier ++ frame ∷ later
@@ -34,6 +34,14 @@ no_front frames last next more earlier frame later split whole =
     let front = ap length whole ∙ length-append (frames ++ next ∷ []) more in
     let begun = length-append frames (next ∷ []) in
     omega (arith, all, one, other, front, begun)
+
+-- no frames have no misfit
+pub none_split : (earlier : List Frame) (frame : Frame) (later : List Frame) → [] ≡ earlier ++ frame ∷ later → ⊥
+none_split [] frame later split = cc
+none_split (one ∷ earlier) frame later split = cc
+
+pub fit_of_none : AreFit []
+fit_of_none = λ earlier frame later split. absurd (none_split earlier frame later split)
 
 pub fit_more : (frames : List Frame) (last : Frame) → AreFit frames → IsFit frames last → AreFit (frames ++ last ∷ [])
 fit_more frames last are is = λ earlier frame later split.

@@ -81,7 +81,7 @@ never_in : (list : Listing) (bytes judged more text : List ℕ) (frames : List F
     → bytes ≡ judged ++ more → FindsFirst list finding judged text → ⊥
 never_in list bytes judged more text frames finding are clean is halts =
     let (behind, grown) = frames_grow caption_channel (halts.frames ++ halts.last ∷ []) frames judged more halts.frames_are (subst (AreFramesOf caption_channel frames) is are) in
-    clean halts.frames halts.last behind (grown ∙ append_assoc halts.frames (halts.last ∷ []) behind) finding.kind halts.is.1.is
+    clean halts.frames halts.last behind (grown ∙ append_assoc halts.frames (halts.last ∷ []) behind) finding.kind halts.is.1.holds
 
 never_found : (list : Listing) (bytes : List ℕ) (frames : List Frame) (finding : Finding) (answer : Put) (old new : Ends) → AreFramesOf caption_channel frames bytes
     → AreClean list frames → IsReadOf bytes old new → Stops (FindsFirst list finding) IsAnyhow answer old new → ⊥
@@ -195,7 +195,7 @@ not_clean : (list : Listing) (bytes : List ℕ) (finding : Finding) (frames more
     → frames ≡ ((has.frames ++ has.last ∷ []) ++ has.behind) ++ more → AreClean list frames → ⊥
 not_clean list bytes finding frames more has is clean =
     clean has.frames has.last (has.behind ++ more)
-    (is ∙ append_assoc (has.frames ++ has.last ∷ []) has.behind more ∙ append_assoc has.frames (has.last ∷ []) (has.behind ++ more)) finding.kind has.found.1.is
+    (is ∙ append_assoc (has.frames ++ has.last ∷ []) has.behind more ∙ append_assoc has.frames (has.last ∷ []) (has.behind ++ more)) finding.kind has.found.1.holds
 
 not_whole : (list : Listing) (bytes judged text : List ℕ) (finding : Finding) (line : List ℕ) (left : Option (List ℕ)) → FindsIn list bytes finding → left ≡ Some bytes
     → IfSome left (λ all. all ≡ judged) → FindsNothing list line judged text → ⊥
@@ -208,7 +208,7 @@ not_whole list bytes judged text finding line left has known whole says =
 same_finding : (list : Listing) (bytes : List ℕ) (finding other : Finding) (frames rest : List Frame) (last : Frame) → (has : FindsIn list bytes finding) → AreClean list frames
     → IsFoundAtFrame list other frames last → TwoFronts frames (last ∷ rest) has.frames has.last → other ≡ finding
 same_finding list bytes finding other frames rest last has clean found (behind_it more is) =
-    absurd (clean has.frames has.last more (is ∙ append_assoc has.frames (has.last ∷ []) more) finding.kind has.found.1.is)
+    absurd (clean has.frames has.last more (is ∙ append_assoc has.frames (has.last ∷ []) more) finding.kind has.found.1.holds)
 same_finding list bytes finding other frames rest last has clean found (same is more left) =
     let end : last ≡ has.last = cc in
     let moved = subst (IsFoundAtFrame list other has.frames) end (subst (λ f. IsFoundAtFrame list other f last) is found) in
@@ -218,7 +218,7 @@ same_finding list bytes finding other frames rest last has clean found (same is 
     one_finding x y at kinds = rw (at, kinds) refl
 same_finding list bytes finding other frames rest last has clean found (before_it item more left is rest_is) =
     let end : item ≡ last = cc in
-    absurd (has.clean frames last more (is ∙ append_assoc frames (item ∷ []) more ∙ ap (λ f. frames ++ f ∷ more) end) other.kind found.1.is)
+    absurd (has.clean frames last more (is ∙ append_assoc frames (item ∷ []) more ∙ ap (λ f. frames ++ f ∷ more) end) other.kind found.1.holds)
 
 found_so : (bytes : List ℕ) (list : Listing) (finding : Finding) (old new : Ends) (answer : Status) → FindsIn list bytes finding → length bytes ≤ words_limit
     → IsReadOf bytes old new → AnswersWords list old new answer → (answer ≡ status.Differs finding) ⊎ (answer ≡ status.Memory)

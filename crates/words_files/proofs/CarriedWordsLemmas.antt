@@ -160,8 +160,8 @@ section_words rate number triplets small =
     counted ∙ ap (λ section. packet_bytes 0x61 0x01 (written_packet rate caption_flags (number % 65536) section)) one
 
 -- no bytes are no sections
-pub no_sections : (bytes : List ℕ) → bytes ≡ [] → IsSectionList bytes
-no_sections bytes none = subst IsSectionList (sym none) (record { cut = []; are = tt; joined = refl })
+pub no_sections : (words : List ℕ) → words ≡ [] → IsSectionList words
+no_sections words empty = subst IsSectionList (sym empty) (record { cut = []; are = tt; joined = refl })
 
 -- a counter has the low 16 bits of a number
 pub same_counter : (rate : Rate) (number counter : ℕ) (triplets : List Triplet) → counter ≡ number % 65536

@@ -1,8 +1,10 @@
+ghost use Rattle.std.specs.Option.{option_map_or};
 ghost use Rattle.std.specs.Prelude.{◌≡◌, ◌≤◌, ◌<◌, ◌+◌, ◌^◌, ◌&&◌, not, ℕ, Bool, List, length, option_map, suc};
 ghost use Rattle.line21_codes.specs.NullPairs.{is_null};
+ghost use Rattle.line21_codes.specs.Writing.{pair_of_code};
+ghost use Rattle.line21_codes.specs.declared.channels.FieldNumber.TheVariants.{Two};
 ghost use Rattle.line21_slots.specs.Cadences.{slot_in};
 ghost use Rattle.cue_lists.specs.declared.cue.Cue.{Cue};
-ghost use Rattle.xds_beside_captions.specs.XdsFrames.{laid};
 ghost use Rattle.xds_frames.specs.Loads.{StandsAt};
 ghost use Rattle.xds_frames.specs.Packets.{IsLaying, Laying, frame_next, is_free, laid_frame, loads_in, writer_in};
 ghost use Rattle.xds_lists.specs.Writer.{IsBehind};
@@ -85,7 +87,8 @@ impl Packets {
             (listed : List Listed) (n : ℕ) → StandsAt cues frame (loads_in self.old)
             → IsBehind frees frame_of listed n (writer_in self.old)
             → frees n ≡ is_free cues frame pair → frame_of n ≡ frame
-            → (result ≡ laid (given_at frees frame_of listed n) pair)
+            → (result
+            ≡ option_map_or (pair_of_code Two) (given_at frees frame_of listed n) pair)
             × IsBehind frees frame_of listed (suc n) (writer_in self.new) }
         ensures loads { (cues : List Cue) → StandsAt cues frame (loads_in self.old) → (later : ℕ)
             → frame ≤ later → StandsAt cues later (loads_in self.new) }

@@ -13,16 +13,10 @@ pub returns-in-Memory-clause-bytes : goal.returns-in-Memory-clause-bytes
 returns-in-Memory-clause-bytes g c = rw c.in-Memory.is c.put_pieces-in-Memory.ensures.bytes
 
 pub returns-in-NoRoom-clause-bytes : goal.returns-in-NoRoom-clause-bytes
-returns-in-NoRoom-clause-bytes g c =
-    let put = rw (c.as_bytes-in-NoRoom.ensures.value, c.format.ensures.text) at c.put_pieces-in-NoRoom.ensures.bytes in
-    rw c.in-NoRoom.is put
+returns-in-NoRoom-clause-bytes g c = rw c.in-NoRoom.is c.put_numbered.ensures.bytes
 
 pub returns-in-NoRoomBeside-clause-bytes : goal.returns-in-NoRoomBeside-clause-bytes
-returns-in-NoRoomBeside-clause-bytes g c =
-    let put = rw (c.as_bytes-in-NoRoomBeside.ensures.value, c.format-in-NoRoomBeside.ensures.text) at c.put_pieces-in-NoRoomBeside.ensures.bytes in
-    rw c.in-NoRoomBeside.is put
+returns-in-NoRoomBeside-clause-bytes g c = rw c.in-NoRoomBeside.is c.put_numbered-in-NoRoomBeside.ensures.bytes
 
 pub returns-in-NoXdsRoom-clause-bytes : goal.returns-in-NoXdsRoom-clause-bytes
-returns-in-NoXdsRoom-clause-bytes g c =
-    let put = rw (c.as_bytes-in-NoXdsRoom.ensures.value, c.format-in-NoXdsRoom.ensures.text) at c.put_pieces-in-NoXdsRoom.ensures.bytes in
-    rw c.in-NoXdsRoom.is put
+returns-in-NoXdsRoom-clause-bytes g c = rw c.in-NoXdsRoom.is c.put_numbered-in-NoXdsRoom.ensures.bytes
