@@ -131,8 +131,17 @@ fn put_half(counter: u16, triplets: &[Triplet; 10], out: &mut ArrayVec<u8, 200>)
     ensures len { array_vec_len out.new ≡ array_vec_len out.old + 100 }
 {
     let mut words = ArrayVec::new();
-    write_triplets(Rate::F5994, counter, triplets, &mut words);
+    write_half(counter, triplets, &mut words);
     append(&words, out);
+}
+
+// Writes the bytes of the ancillary packet of a half into an empty `out`. Within `put_half` the compiler would clear its rooms once more.
+fn write_half(counter: u16, triplets: &[Triplet; 10], out: &mut ArrayVec<u8, 524>)
+    requires kinds { All (λ t. t.kind < 4) triplets.now }
+    requires empty { out.old.items ≡ [] }
+    ensures { out.new.items ≡ carried_words (triplets_packet rate.F5994 counter triplets.now) }
+{
+    write_triplets(Rate::F5994, counter, triplets, out);
 }
 
 // Puts the hundred bytes of a packet behind others.

@@ -8,11 +8,11 @@ returns c = record {
   fit = fit_of_none;
   keeps = search rules;
   served = record {
-      earlier = earlier_events [];
-      last = last_events [];
-      has = c.in_ok-new.ensures.led;
-      leads = λ service. refl;
-      before = λ others newest split. absurd (none_split others newest [] split);
+    earlier = earlier_events [];
+    last = last_events [];
+    has = c.in_ok-new.ensures.led;
+    leads = λ service. refl;
+    before = λ others newest split. absurd (none_split others newest [] split);
   };
   ticks = search rules;
   none = refl;
