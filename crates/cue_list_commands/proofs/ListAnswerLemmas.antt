@@ -12,7 +12,7 @@ use Rattle.cue_lists.specs.declared.head.Version.TheVariants as version
 use Rattle.frame_scheduler.specs.Planned.{Placement}
 use Rattle.cue_list_commands.specs.Accepted.{IsAccepted, IsGoodList, IsRefused, IsRefusedList}
 use Rattle.cue_list_commands.specs.ListAnswer.{BuildAnswer, CuesAnswer, PairsAnswer}
-use Rattle.cue_list_commands.specs.Output.{IsPlacedAs, IsSoundPairs, IsSoundWords, list_framing, lines_of}
+use Rattle.cue_list_commands.specs.Output.{IsPlacedAs, IsSoundPairs, IsSoundWords, framing_of, lines_of}
 use Rattle.programmes.specs.Framing.{words_of}
 use Rattle.command_base.proofs.MakesLemmas.{made_accepted, made_refused, made_told}
 use Rattle.cue_list_commands.proofs.ListVerdictLemmas.{accepted_not_refused, good_not_refused, refused_once}
@@ -26,12 +26,12 @@ IsReadAgain list = records_of (list_bytes list) ≡ list_records version.Two (in
 pub accepted_pairs : (bytes : List ℕ) (list : Listing) (placed : Placement) (old new : Ends) (answer : Status) → IsAccepted bytes list placed → IsReadOf bytes old new
     → PairsAnswer old new answer → (answer ≡ status.Ok) ⊎ (answer ≡ status.Memory)
 accepted_pairs bytes list placed old new answer accepted read is =
-    made_accepted IsPlacedAs (λ made. lines_of (list_framing made.list made.placed)) IsSoundPairs IsRefused bytes old new answer (λ refusal. accepted_not_refused bytes list placed refusal accepted) read is
+    made_accepted IsPlacedAs (λ made. lines_of (framing_of made)) IsSoundPairs IsRefused bytes old new answer (λ refusal. accepted_not_refused bytes list placed refusal accepted) read is
 
 pub accepted_build : (bytes : List ℕ) (list : Listing) (placed : Placement) (old new : Ends) (answer : Status) → IsAccepted bytes list placed → IsReadOf bytes old new
     → BuildAnswer old new answer → (answer ≡ status.Ok) ⊎ (answer ≡ status.Memory)
 accepted_build bytes list placed old new answer accepted read is =
-    made_accepted IsPlacedAs (λ made. words_of (list_framing made.list made.placed)) IsSoundWords IsRefused bytes old new answer (λ refusal. accepted_not_refused bytes list placed refusal accepted) read is
+    made_accepted IsPlacedAs (λ made. words_of (framing_of made)) IsSoundWords IsRefused bytes old new answer (λ refusal. accepted_not_refused bytes list placed refusal accepted) read is
 
 -- one that keeps the rules
 pub good_cues : (bytes : List ℕ) (list : Listing) (old new : Ends) (answer : Status) → IsGoodList bytes list → IsReadOf bytes old new
@@ -48,14 +48,14 @@ accepted_cues bytes list placed old new answer accepted read is =
 pub refused_pairs : (bytes : List ℕ) (refusal : Status) (old new : Ends) (answer : Status) → IsRefused bytes refusal → IsReadOf bytes old new
     → PairsAnswer old new answer → (answer ≡ refusal) ⊎ (answer ≡ status.Memory)
 refused_pairs bytes refusal old new answer is_refused read is =
-    made_refused IsPlacedAs (λ made. lines_of (list_framing made.list made.placed)) IsSoundPairs IsRefused bytes refusal old new answer
+    made_refused IsPlacedAs (λ made. lines_of (framing_of made)) IsSoundPairs IsRefused bytes refusal old new answer
     (λ made accepted. accepted_not_refused bytes made.list made.placed refusal accepted is_refused)
     (λ other again. refused_once bytes other refusal again is_refused) read is
 
 pub refused_build : (bytes : List ℕ) (refusal : Status) (old new : Ends) (answer : Status) → IsRefused bytes refusal → IsReadOf bytes old new
     → BuildAnswer old new answer → (answer ≡ refusal) ⊎ (answer ≡ status.Memory)
 refused_build bytes refusal old new answer is_refused read is =
-    made_refused IsPlacedAs (λ made. words_of (list_framing made.list made.placed)) IsSoundWords IsRefused bytes refusal old new answer
+    made_refused IsPlacedAs (λ made. words_of (framing_of made)) IsSoundWords IsRefused bytes refusal old new answer
     (λ made accepted. accepted_not_refused bytes made.list made.placed refusal accepted is_refused)
     (λ other again. refused_once bytes other refusal again is_refused) read is
 
@@ -68,10 +68,10 @@ refused_cues bytes refusal old new answer is_refused read is =
 
 -- a count of faults that is greater than before
 pub told_pairs : (old new : Ends) (answer : Status) → PairsAnswer old new answer → TellsFaults old new answer
-told_pairs old new answer is = made_told IsPlacedAs (λ made. lines_of (list_framing made.list made.placed)) IsSoundPairs IsRefused old new answer is
+told_pairs old new answer is = made_told IsPlacedAs (λ made. lines_of (framing_of made)) IsSoundPairs IsRefused old new answer is
 
 pub told_build : (old new : Ends) (answer : Status) → BuildAnswer old new answer → TellsFaults old new answer
-told_build old new answer is = made_told IsPlacedAs (λ made. words_of (list_framing made.list made.placed)) IsSoundWords IsRefused old new answer is
+told_build old new answer is = made_told IsPlacedAs (λ made. words_of (framing_of made)) IsSoundWords IsRefused old new answer is
 
 pub told_cues : (old new : Ends) (answer : Status) → CuesAnswer old new answer → TellsFaults old new answer
 told_cues old new answer is = made_told IsGoodList list_bytes IsReadAgain IsRefusedList old new answer is

@@ -1,5 +1,5 @@
 -- What holds of the output of an accepted list.
-use Rattle.std.proofs.Common.{◌≡◌, ◌∙◌, ◌<◌, subst, ℕ, List, Option, Some, None}
+use Rattle.std.proofs.Common.{◌≡◌, ◌∙◌, subst, ℕ, List, Option, Some, None}
 use Rattle.std.specs.Prelude.{IfSome}
 use Rattle.cc_base.specs.Streams.{Puts}
 use Rattle.line21_codes.specs.declared.channels.FieldNumber.TheVariants.{One, Two}

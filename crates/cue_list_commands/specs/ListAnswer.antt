@@ -9,16 +9,16 @@ use Rattle.cue_list_commands.specs.Accepted.{IsGoodList, IsRefused, IsRefusedLis
 use Rattle.command_base.specs.Ends.{Ends}
 use Rattle.programmes.specs.Framing.{words_of}
 use Rattle.command_base.specs.MakesAnswer.{MakesAnswer}
-use Rattle.cue_list_commands.specs.Output.{IsPlacedAs, IsSoundPairs, IsSoundWords, list_framing, lines_of}
+use Rattle.cue_list_commands.specs.Output.{IsPlacedAs, IsSoundPairs, IsSoundWords, framing_of, lines_of}
 use Rattle.command_base.specs.declared.status.Status.{Status}
 
 -- what `pairs` answers
 abbrev pub PairsAnswer : Ends → Ends → Status → Type 0
-PairsAnswer old new answer = MakesAnswer IsPlacedAs (λ made. lines_of (list_framing made.list made.placed)) IsSoundPairs IsRefused old new answer
+PairsAnswer old new answer = MakesAnswer IsPlacedAs (λ made. lines_of (framing_of made)) IsSoundPairs IsRefused old new answer
 
 -- what `build` answers
 abbrev pub BuildAnswer : Ends → Ends → Status → Type 0
-BuildAnswer old new answer = MakesAnswer IsPlacedAs (λ made. words_of (list_framing made.list made.placed)) IsSoundWords IsRefused old new answer
+BuildAnswer old new answer = MakesAnswer IsPlacedAs (λ made. words_of (framing_of made)) IsSoundWords IsRefused old new answer
 
 -- what `cues` answers: a list that keeps the rules is put as it is written, in version 2, and is read so again
 abbrev pub CuesAnswer : Ends → Ends → Status → Type 0

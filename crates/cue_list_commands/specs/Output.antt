@@ -28,6 +28,9 @@ IsPlacedAs bytes made = IsAccepted bytes made.list made.placed
 abbrev pub list_framing : Listing → Placement → Framing
 list_framing list placed = record { rate = list.rate; columns = columns_of list placed; count = list.frames }
 
+abbrev pub framing_of : PlacedList → Framing
+framing_of made = list_framing made.list made.placed
+
 -- `pairs` puts a line for each frame
 abbrev pub lines_of : Framing → List ℕ
 lines_of framing = pair_lines framing.columns 0 framing.count

@@ -8,7 +8,7 @@ use Rattle.frame_scheduler.specs.Frames.{GivesFrom, frames_left}
 use Rattle.frame_scheduler.specs.declared.frames.Plan.{Plan}
 use Rattle.programmes.specs.declared.programme.Programme.{Programme}
 use Rattle.programme_runs.specs.Made.{IsProgrammeOf as IsProgrammeMade}
-use Rattle.cue_list_commands.specs.Output.{IsPlacedAs, list_framing, PlacedList}
+use Rattle.cue_list_commands.specs.Output.{IsPlacedAs, framing_of}
 use Rattle.cue_list_commands.specs.Accepted.{IsGoodList, IsRefused, IsRefusedList}
 use Rattle.command_base.specs.WholeInput.{ReadsInput}
 use Rattle.command_base.specs.declared.status.Place.TheVariants.{Field}
@@ -23,7 +23,7 @@ form_status (fault.Malformed rec field why) = status.Malformed (Field rec field)
 
 -- the programme is that of the accepted list
 abbrev pub IsProgrammeOf : List ℕ → Programme Plan → Type 0
-IsProgrammeOf bytes programme = IsProgrammeMade IsPlacedAs (λ (made : PlacedList). list_framing made.list made.placed) frames_left GivesFrom bytes programme
+IsProgrammeOf bytes programme = IsProgrammeMade IsPlacedAs framing_of frames_left GivesFrom bytes programme
 
 -- an input gives the programme of its list, or is refused
 abbrev pub ReadsProgramme : Option (List ℕ) → Option (List ℕ) → ℕ → ℕ → Result (Programme Plan) Status → Type 0

@@ -15,7 +15,7 @@ pub(crate) struct Build;
 
 impl Makes for Build {
     ghost use Rattle.cue_list_commands.specs.Accepted.{IsRefused};
-    ghost use Rattle.cue_list_commands.specs.Output.{IsPlacedAs, IsSoundWords, PlacedList, list_framing};
+    ghost use Rattle.cue_list_commands.specs.Output.{IsPlacedAs, IsSoundWords, PlacedList, framing_of};
 
     type Made = Plan;
 
@@ -25,7 +25,7 @@ impl Makes for Build {
 
     ghost IsAccepted = { λ _. IsPlacedAs };
 
-    ghost framing_of = { λ made. list_framing made.list made.placed };
+    ghost framing_of = { framing_of };
 
     ghost IsSound = { IsSoundWords };
 

@@ -20,7 +20,7 @@ struct Pairs;
 
 impl Makes for Pairs {
     ghost use Rattle.cue_list_commands.specs.Accepted.{IsRefused};
-    ghost use Rattle.cue_list_commands.specs.Output.{IsPlacedAs, IsSoundPairs, PlacedList, list_framing};
+    ghost use Rattle.cue_list_commands.specs.Output.{IsPlacedAs, IsSoundPairs, PlacedList, framing_of};
 
     type Made = Plan;
 
@@ -30,7 +30,7 @@ impl Makes for Pairs {
 
     ghost IsAccepted = { λ _. IsPlacedAs };
 
-    ghost framing_of = { λ made. list_framing made.list made.placed };
+    ghost framing_of = { framing_of };
 
     ghost IsSound = { IsSoundPairs };
 

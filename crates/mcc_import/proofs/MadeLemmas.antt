@@ -1,5 +1,5 @@
 -- The words that are made of packets: how many frames and bytes they have.
-use Rattle.std.proofs.Common.{◌≡◌, ℕ, zero, suc, ◌+◌, ◌-◌, ◌*◌, ◌%◌, ◌/◌, ◌≤◌, inl, inr, true, false, cond, List, [], ◌∷◌, ◌++◌, length, length-append, Option, Some, None, ap, sym, ◌∙◌, subst, arith, zero-add}
+use Rattle.std.proofs.Common.{◌≡◌, ℕ, zero, suc, ◌+◌, ◌*◌, ◌%◌, ◌≤◌, inl, inr, true, false, cond, List, [], ◌∷◌, ◌++◌, length, length-append, Option, Some, None, ap, sym, ◌∙◌, subst, arith, zero-add}
 use Rattle.anc_words.specs.Writing.{packet_bytes}
 use Rattle.cc_base.specs.Rate.{triplets_in_frame}
 use Rattle.cc_base.specs.declared.rate.Rate.{Rate}

@@ -1,5 +1,5 @@
 -- What `import-mcc` answers, where the file was read to its end or the reading stopped before.
-use Rattle.std.proofs.Common.{◌≡◌, ◌⊎◌, ℕ, inl, inr, List, [], Option, Result, Ok, Err, refl, sym, ◌∙◌, subst}
+use Rattle.std.proofs.Common.{◌≡◌, ℕ, inl, inr, List, [], Option, Result, Ok, Err, refl, sym, ◌∙◌, subst}
 use Rattle.std.specs.Io.KnownBytes.{Appends}
 use Rattle.mcc_import.specs.Offences.{IsWithoutOffence}
 use Rattle.cc_base.specs.Streams.{Puts, Rose}
@@ -17,7 +17,7 @@ use Rattle.words_reading.specs.Reading.{Stops}
 use Rattle.words_reading.specs.Statuses.{stop_status as status_of}
 use Rattle.words_reading.specs.declared.judge.Stop.{Stop}
 use Rattle.words_reading.specs.declared.judge.Stop.TheVariants as stopped
-use Rattle.mcc_import.specs.ImportMcc.{EndsInput, HaltsImport, HasEndedLine, ImportMccAnswer}
+use Rattle.mcc_import.specs.ImportMcc.{EndsInput, HaltsImport, HasEndedLine, ImportMccAnswer, SaysImport}
 use Rattle.mcc_import.specs.Imported.{IsMccImport, PassesAtPacket, SaysLines}
 use Rattle.mcc_import.specs.Importing.{HaltsWhere, Holds, PutsHeld, PutsRest, ReadsFile}
 use Rattle.mcc_import.specs.Stops.{stop_status}
@@ -60,9 +60,9 @@ puts_all Says Why first left begun now then reads later writes still last held h
 
 -- a put of them fails
 pub puts_front : (Says : List ℕ → List ℕ → Type 0) (Why : Cause) (first left begun now then : Option (List ℕ)) (reads later writes still last : ℕ) (held : List ℕ)
-    → ((bytes words : List ℕ) → Says bytes words → SaysFront (λ (bytes text : List ℕ). SaysLines bytes text ⊎ IsMccImport bytes text) HaltsImport bytes words)
+    → ((bytes words : List ℕ) → Says bytes words → SaysFront SaysImport HaltsImport bytes words)
     → Holds Says Why (ends first reads begun writes) (ends left later now still) held → Puts now then put.Failed held
-    → Stops (SaysFront (λ (bytes text : List ℕ). SaysLines bytes text ⊎ IsMccImport bytes text) HaltsImport) IsAnyhow put.Failed (ends first reads begun writes) (ends left later then last)
+    → Stops (SaysFront SaysImport HaltsImport) IsAnyhow put.Failed (ends first reads begun writes) (ends left later then last)
 puts_front Says Why first left begun now then reads later writes still last held says had fails = record {
   judged = had.judged;
   unjudged = had.unjudged;

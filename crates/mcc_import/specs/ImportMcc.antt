@@ -1,7 +1,7 @@
 -- Believed: the program's answer stands on these definitions.
 -- What `import-mcc` answers: the words of the packets of an MCC file, with frames without captions where some are missing, or why the run
 -- stopped, and with what words before.
-use Rattle.std.specs.Prelude.{◌≡◌, ◌<◌, ◌⊎◌, ℕ, List, [], ◌∷◌, ◌++◌, Option}
+use Rattle.std.specs.Prelude.{◌≡◌, ◌⊎◌, ℕ, List, [], ◌∷◌, ◌++◌, Option}
 use Rattle.cc_base.specs.Streams.{Rose}
 use Rattle.cc_base.specs.declared.limit_of.LimitOf.TheVariants as limit
 use Rattle.cc_base.specs.declared.refusal.Refusal.{Refusal}
@@ -32,6 +32,10 @@ abbrev pub HaltsImport : MccStop → List ℕ → List ℕ → Type 0
 HaltsImport (stop.Offends refusal) bytes text = RefusesAt refusal bytes text
 HaltsImport (stop.Passes which) bytes text = PassesAtPacket which bytes text
 
+-- these are the words of the packets of the lines that ended in the bytes, or of a whole file
+abbrev pub SaysImport : List ℕ → List ℕ → Type 0
+SaysImport bytes text = SaysLines bytes text ⊎ IsMccImport bytes text
+
 -- the whole input ends too soon
 abbrev pub EndsInput : Refusal → Option (List ℕ) → Cause
 EndsInput refusal left judged unjudged = IsWholeInput left judged unjudged × IsMccCutShort judged refusal
@@ -46,7 +50,7 @@ ImportMccAnswer old new status.Ok = IsSteady old new × Stops IsMccImport (IsWho
 ImportMccAnswer old new status.ReadFault =
     Rose old.read_faults new.read_faults × (new.write_faults ≡ old.write_faults) × Stops SaysLines (HasNoOffence IsWithoutOffence) put.Done old new
 ImportMccAnswer old new status.WriteFault =
-    (new.read_faults ≡ old.read_faults) × Rose old.write_faults new.write_faults × Stops (SaysFront (λ bytes text. SaysLines bytes text ⊎ IsMccImport bytes text) HaltsImport) IsAnyhow put.Failed old new
+    (new.read_faults ≡ old.read_faults) × Rose old.write_faults new.write_faults × Stops (SaysFront SaysImport HaltsImport) IsAnyhow put.Failed old new
 ImportMccAnswer old new status.Memory = new ≡ old
 ImportMccAnswer old new (status.Limit limit.Bytes) =
     IsSteady old new

@@ -1,6 +1,6 @@
 -- Between crates: the program's answer stands on none of these definitions.
 -- An import on its way: what was read of the file, which words were heard, and what was made of the packets.
-use Rattle.std.specs.Prelude.{◌≡◌, ◌⊎◌, ◌≤◌, ◌<◌, ◌+◌, ◌*◌, ℕ, List, [], ◌∷◌, ◌++◌, length, take, Option, IfSome, Result, Ok, Err}
+use Rattle.std.specs.Prelude.{◌≡◌, ◌≤◌, ◌<◌, ◌+◌, ◌*◌, ℕ, List, [], ◌∷◌, ◌++◌, length, take, Option, IfSome, Result, Ok, Err}
 use Rattle.anc_words.specs.Writing.{packet_bytes}
 use Rattle.cc_base.specs.Rate.{triplets_in_frame}
 use Rattle.std.specs.Io.KnownBytes.{Appends, Consumes}
@@ -35,7 +35,7 @@ use Rattle.words_reading.specs.Judging.{SaysFront}
 use Rattle.words_reading.specs.Reading.{Stops}
 use Rattle.words_reading.specs.declared.judge.Stop.{Stop}
 use Rattle.words_reading.specs.declared.judge.Stop.TheVariants as stopped
-use Rattle.mcc_import.specs.ImportMcc.{EndsInput, HaltsImport, HasEndedLine}
+use Rattle.mcc_import.specs.ImportMcc.{EndsInput, HaltsImport, HasEndedLine, SaysImport}
 use Rattle.mcc_import.specs.Imported.{AreEndedLines, AreWithinImport, IsMccImport, PassesAtPacket, PassesWith, SaysLines, frames_put, most_imported_frames}
 use Rattle.mcc_import.specs.Offences.{IsMccCutShort, ItemWordOffends, NoWordOffends, IsWithoutOffence}
 use Rattle.mcc_import.specs.Words.{state_words, words_with}
@@ -211,7 +211,7 @@ ReadsFile old new held (Ok done) = IsSteady old new × Holds IsMccImport (IsWhol
 ReadsFile old new held (Err stopped.ReadFault) =
     Rose old.read_faults new.read_faults × (new.write_faults ≡ old.write_faults) × Stops SaysLines (HasNoOffence IsWithoutOffence) put.Done old new
 ReadsFile old new held (Err stopped.WriteFault) =
-    (new.read_faults ≡ old.read_faults) × Rose old.write_faults new.write_faults × Stops (SaysFront (λ (bytes text : List ℕ). SaysLines bytes text ⊎ IsMccImport bytes text) HaltsImport) IsAnyhow put.Failed old new
+    (new.read_faults ≡ old.read_faults) × Rose old.write_faults new.write_faults × Stops (SaysFront SaysImport HaltsImport) IsAnyhow put.Failed old new
 ReadsFile old new held (Err stopped.Limit) = IsSteady old new × Holds SaysLines (PassesLimit IsWithoutOffence) old new held
 ReadsFile old new held (Err (stopped.Refused refusal)) = IsSteady old new × Holds SaysLines (EndsInput refusal old.left) old new held
 ReadsFile old new held (Err (stopped.Own why)) = IsSteady old new × Holds (HaltsImport why) (HaltsWhere old.left why) old new held
