@@ -118,7 +118,7 @@ module _ (list : Listing) (channel : Chan) (formed : IsFormed list) (ruled : IsR
   ended = channel_ended list channel formed ruled
 
   begun_bytes : (placed : List ℕ) (n : ℕ) (unit : Unit)
-      → lane_timeline (channel_events channel (slot_cues list channel)) (channel_chunks channel (slot_cues list channel)) placed n ≡ Some unit → IsBytePair unit.pair
+      → lane_timeline (event_at (channel_events channel (slot_cues list channel))) (channel_chunks channel (slot_cues list channel)) placed n ≡ Some unit → IsBytePair unit.pair
   begun_bytes placed =
       channel_all IsBytePair (λ f code writable first. record { a = written-a f code writable; b = written-b f code writable })
       (slot_cues list channel) channel placed (slot_cues_formed list formed channel)

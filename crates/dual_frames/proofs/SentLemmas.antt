@@ -7,13 +7,13 @@ use Rattle.line21_codes.specs.declared.pairs.Pair.{Pair}
 use Rattle.line21_codes.specs.NullPairs.{null_pair}
 use Rattle.line21_author.specs.declared.unit.Unit.{Unit}
 use Rattle.frame_carrier.specs.Carried.{IsBytePair}
-use Rattle.field_lanes.specs.LaneTimeline.{stands}
+use Rattle.field_lanes.specs.LaneTimeline.{stands, lane_timeline}
 use Rattle.field_lanes.specs.Timeline.{Timeline, repeat_at, repeat_of, slot}
 use Rattle.resumed_lanes.specs.Parts.{part_slots}
 use Rattle.resumed_lanes.specs.ResumedLane.{Stand}
 use Rattle.resumed_lanes.specs.Slots.{Slots}
 use Rattle.resumed_lanes.specs.declared.part.Part.{Part}
-use Rattle.shared_field_shown.specs.Lanes.{again, part_chunks, plain_timeline, whole}
+use Rattle.shared_field_shown.specs.Lanes.{again, part_chunks, whole}
 use Rattle.shared_field_shown.proofs.LaneLemmas.{again_at, some_size, stands_at, two_size}
 
 -- a unit that begins in a slot is of bytes, and sent within so many slots
@@ -86,13 +86,13 @@ module _ (slots : Slots) (count : ℕ) where
       → ((n : ℕ) (unit : Unit) → events n ≡ Some unit → IsSent count n unit) → (n : ℕ) (unit : Unit) → whole events parts fs rs n ≡ Some unit → IsSent count n unit
   lane_sent events parts fs rs stand are sent n unit is =
       ⊎_elim
-      (λ (at : plain_timeline events parts fs n ≡ Some unit).
+      (λ (at : lane_timeline events (part_chunks parts) fs n ≡ Some unit).
       ⊎_elim
       (λ (event : events n ≡ Some unit). sent n unit event)
       (λ (at_unit : stands (part_chunks parts) fs n ≡ Some unit). stands_sent 0 parts fs rs stand are n unit at_unit)
       (either_is (events n) (stands (part_chunks parts) fs n) unit at))
       (λ (at : again parts rs n ≡ Some unit). again_sent 0 parts fs rs stand are n unit at)
-      (either_is (plain_timeline events parts fs n) (again parts rs n) unit is)
+      (either_is (lane_timeline events (part_chunks parts) fs n) (again parts rs n) unit is)
 
 null_bytes : IsBytePair null_pair
 null_bytes = record { a = omega arith; b = omega arith }

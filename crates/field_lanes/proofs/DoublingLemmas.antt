@@ -157,7 +157,7 @@ unit_all P (p ∷ ps) (f ∷ fs) n u all is = go (unit_all P ps fs n u (All-tail
     go rest false b = rest (sym (at_unit p ps f fs n false b) ∙ is)
 
 -- in the lane's timeline what begins is an event, or else a unit
-pub over_cases : (events : List Event) (chunks : List FieldChunk) (fs : List ℕ) (n : ℕ) (u : Unit) → lane_timeline events chunks fs n ≡ Some u
+pub over_cases : (events : List Event) (chunks : List FieldChunk) (fs : List ℕ) (n : ℕ) (u : Unit) → lane_timeline (event_at events) chunks fs n ≡ Some u
     → (event_at events n ≡ Some u) ⊎ ((event_at events n ≡ None) × (stands chunks fs n ≡ Some u))
 over_cases events chunks fs n u is = go (event_at events n) refl
   where
@@ -167,7 +167,7 @@ over_cases events chunks fs n u is = go (event_at events n) refl
 
 -- where neither begins, nothing does
 over_none : (events : List Event) (chunks : List FieldChunk) (fs : List ℕ) (n : ℕ) → event_at events n ≡ None → stands chunks fs n ≡ None
-    → lane_timeline events chunks fs n ≡ None
+    → lane_timeline (event_at events) chunks fs n ≡ None
 over_none events chunks fs n a b = ap (λ o. option_or o (stands chunks fs n)) a ∙ b
 
 -- no event begins in a slot that is free
@@ -199,25 +199,25 @@ due_from (Some u) p is = go u.doubled refl
 
 -- nothing begins in a repeat of a placed lane whose events lie apart
 pub lane_spaced : (events : List Event) (chunks : List FieldChunk) (fs : List ℕ) → AreApart events → IsPlaced (field_lane events) [] chunks fs
-    → IsSpaced (lane_timeline events chunks fs)
+    → IsSpaced (lane_timeline (event_at events) chunks fs)
 lane_spaced events chunks fs apart placed n p due =
-    let d = due_from (lane_timeline events chunks fs n) p due in
-    let none : lane_timeline events chunks fs (n + 1) ≡ None =
+    let d = due_from (lane_timeline (event_at events) chunks fs n) p due in
+    let none : lane_timeline (event_at events) chunks fs (n + 1) ≡ None =
     ⊎_elim (at d.0) (behind d.0 d.2) (over_cases events chunks fs n d.0 d.1) in
     let e : n + 1 ≡ suc n = omega arith in
-    subst (λ m. lane_timeline events chunks fs m ≡ None) e none
+    subst (λ m. lane_timeline (event_at events) chunks fs m ≡ None) e none
   where
-    at : (u : Unit) → event_at events n ≡ Some u → lane_timeline events chunks fs (n + 1) ≡ None
+    at : (u : Unit) → event_at events n ≡ Some u → lane_timeline (event_at events) chunks fs (n + 1) ≡ None
     at u is = over_none events chunks fs (n + 1) (event_apart events n u apart is) (held_none events chunks fs (n + 1) placed (event_held events n u is).1)
 
-    behind : (u : Unit) → u.doubled ≡ true → (event_at events n ≡ None) × (stands chunks fs n ≡ Some u) → lane_timeline events chunks fs (n + 1) ≡ None
+    behind : (u : Unit) → u.doubled ≡ true → (event_at events n ≡ None) × (stands chunks fs n ≡ Some u) → lane_timeline (event_at events) chunks fs (n + 1) ≡ None
     behind u doubled w =
         let b = unit_begins events [] chunks fs n u placed w.1 in
         let two : slots_of b.0.chunk ≡ 2 = two_slots b.0.chunk u b.0.unit_is doubled in
         over_none events chunks fs (n + 1) (free_none events (n + 1) (b.0.allowed.free (n + 1) (omega arith) (omega arith))) (b.1 doubled)
 
 -- what begins in the lane is doubled exactly where it is a control pair
-pub lane_marked : (events : List Event) (chunks : List FieldChunk) (fs : List ℕ) → AreDoubledControls events chunks → IsMarked (lane_timeline events chunks fs)
+pub lane_marked : (events : List Event) (chunks : List FieldChunk) (fs : List ℕ) → AreDoubledControls events chunks → IsMarked (lane_timeline (event_at events) chunks fs)
 lane_marked events chunks fs all n u is =
     ⊎_elim
     (λ (a : event_at events n ≡ Some u). event_marked events n u all.events_are a)
@@ -228,9 +228,9 @@ lane_marked events chunks fs all n u is =
 
 -- nothing is due at a frame by which all has ended
 pub lane_ended : (events : List Event) (chunks : List FieldChunk) (fs : List ℕ) (n : ℕ) → AreEnded events chunks n → IsPlaced (field_lane events) [] chunks fs
-    → repeat_at (lane_timeline events chunks fs) n ≡ None
+    → repeat_at (lane_timeline (event_at events) chunks fs) n ≡ None
 lane_ended events chunks fs zero ended placed = refl
-lane_ended events chunks fs (suc k) ended placed = go (repeat_of (lane_timeline events chunks fs k)) refl
+lane_ended events chunks fs (suc k) ended placed = go (repeat_of (lane_timeline (event_at events) chunks fs k)) refl
   where
     no_event : event_at events k ≡ None
     no_event = event_over events k (let e : suc k ≡ k + 1 = omega arith in subst (λ m. AreOver m events) e ended.events_are)
@@ -243,10 +243,10 @@ lane_ended events chunks fs (suc k) ended placed = go (repeat_of (lane_timeline 
         let two : slots_of b.chunk ≡ 2 = two_slots b.chunk u b.unit_is doubled in
         omega (arith, b.allowed.ended)
 
-    go : (r : Option Pair) → repeat_of (lane_timeline events chunks fs k) ≡ r → repeat_of (lane_timeline events chunks fs k) ≡ None
+    go : (r : Option Pair) → repeat_of (lane_timeline (event_at events) chunks fs k) ≡ r → repeat_of (lane_timeline (event_at events) chunks fs k) ≡ None
     go None is = is
     go (Some p) is =
-        let d = due_from (lane_timeline events chunks fs k) p is in
+        let d = due_from (lane_timeline (event_at events) chunks fs k) p is in
         absurd (⊎_elim
         (λ (a : event_at events k ≡ Some d.0). let f : Some d.0 ≡ None = sym a ∙ no_event in cc)
         (λ (w : (event_at events k ≡ None) × (stands chunks fs k ≡ Some d.0)). inside chunks fs [] d.0 ended.chunks_are placed w.1 d.2)
@@ -254,7 +254,7 @@ lane_ended events chunks fs (suc k) ended placed = go (repeat_of (lane_timeline 
 
 -- the control pairs of a placed lane are doubled
 pub lane_doubled : (events : List Event) (chunks : List FieldChunk) (fs : List ℕ) (n : ℕ) → AreApart events → AreDoubledControls events chunks → AreEnded events chunks n
-    → IsPlaced (field_lane events) [] chunks fs → IsDoubled (column (lane_timeline events chunks fs) n)
+    → IsPlaced (field_lane events) [] chunks fs → IsDoubled (column (lane_timeline (event_at events) chunks fs) n)
 lane_doubled events chunks fs n apart all ended placed =
-    column_doubled (lane_timeline events chunks fs) (lane_marked events chunks fs all) (lane_spaced events chunks fs apart placed) n
+    column_doubled (lane_timeline (event_at events) chunks fs) (lane_marked events chunks fs all) (lane_spaced events chunks fs apart placed) n
     (lane_ended events chunks fs n ended placed)

@@ -84,7 +84,7 @@ unit_stands (p ∷ ps) [] n = refl
 unit_stands (p ∷ ps) (f ∷ fs) n = ap (λ rest. cond (eqb n f) (Some p.unit) rest) (unit_stands ps fs n)
 
 -- so the timelines are one
-pub timeline_is : (events : List Event) (ps : List FieldChunk) (fs : List ℕ) → placed_timeline events (in_slots ps fs) ≡ lane_timeline events ps fs
+pub timeline_is : (events : List Event) (ps : List FieldChunk) (fs : List ℕ) → placed_timeline events (in_slots ps fs) ≡ lane_timeline (event_at events) ps fs
 timeline_is events ps fs = ap (λ t. over (event_at events) t) (fun_ext (unit_stands ps fs))
 
 -- placed units are in the order of their slots

@@ -13,6 +13,7 @@ use Rattle.field_lanes.specs.FieldLane.{field_lane}
 use Rattle.field_lanes.specs.LaneTimeline.{lane_timeline}
 use Rattle.placements.specs.Placing.{IsEarliest}
 use Rattle.field_lanes.specs.Timeline.{slot}
+use Rattle.field_lanes.specs.LaneEvents.{event_at}
 
 -- the units of the cue of this number: none stands before its LOAD, and each has ended before its SHOW
 abbrev pub field_cue_chunks : ℕ → Cue → List FieldChunk
@@ -34,4 +35,4 @@ IsChannelPlaced channel cues placed = IsEarliest (field_lane (channel_events cha
 
 -- the pair in each slot, where the units of the channel begin in these slots
 abbrev pub channel_slot : Chan → List Cue → List ℕ → ℕ → Pair
-channel_slot channel cues placed = slot (lane_timeline (channel_events channel cues) (channel_chunks channel cues) placed)
+channel_slot channel cues placed = slot (lane_timeline (event_at (channel_events channel cues)) (channel_chunks channel cues) placed)

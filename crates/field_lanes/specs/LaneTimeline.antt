@@ -13,9 +13,9 @@ stands [] fs n = None
 stands (chunk ∷ chunks) [] n = None
 stands (chunk ∷ chunks) (f ∷ fs) n = if n == f then Some chunk.unit else stands chunks fs n
 
--- the lane's timeline, where the units stand in the slots fs
-abbrev pub lane_timeline : List Event → List FieldChunk → List ℕ → Timeline
-lane_timeline events chunks fs = over (event_at events) (stands chunks fs)
+-- a lane's timeline: these events, and the units, where they stand in the slots fs
+abbrev pub lane_timeline : Timeline → List FieldChunk → List ℕ → Timeline
+lane_timeline events chunks fs = over events (stands chunks fs)
 
 -- the units, each with the slot in which it stands
 abbrev pub in_slots : List FieldChunk → List ℕ → List PlacedUnit

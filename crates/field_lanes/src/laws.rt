@@ -6,6 +6,7 @@ ghost use Rattle.field_lanes.specs.DoubledPairs.{IsDoubled};
 ghost use Rattle.field_lanes.specs.FieldLane.{field_lane};
 ghost use Rattle.placements.specs.FirstFit.{EarliestIsFirstFit};
 ghost use Rattle.field_lanes.specs.LaneDoubling.{AreDoubledControls, AreEnded};
+ghost use Rattle.field_lanes.specs.LaneEvents.{event_at};
 ghost use Rattle.line21_author.specs.EventOrder.{AreApart};
 ghost use Rattle.field_lanes.specs.FieldPlan.{field_chunk_cue};
 ghost use Rattle.placements.specs.LaneRoom.{IsFirstCrowded};
@@ -41,7 +42,7 @@ pub fn law_of_doubling()
     ensures { (events : List Event) (chunks : List FieldChunk) (fs : List ℕ) (n : ℕ)
         → AreApart events → AreDoubledControls events chunks → AreEnded events chunks n
         → IsPlaced (field_lane events) [] chunks fs
-        → IsDoubled (column (lane_timeline events chunks fs) n) }
+        → IsDoubled (column (lane_timeline (event_at events) chunks fs) n) }
 {}
 
 /// One cue alone, whose events are at its SHOW or later, has no room exactly where its units take

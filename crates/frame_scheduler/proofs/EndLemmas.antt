@@ -1,5 +1,5 @@
 -- From the end of a list on its frames carry nothing: what a channel sends has ended, and no event and no unit of a service stands there.
-use Rattle.std.proofs.Common.{◌≡◌, ◌∙◌, ◌<◌, ◌≤◌, ◌++◌, ◌&&◌, ◌||◌, ◌==◌, ℕ, suc, List, [], ◌∷◌, ap, map, not, refl, sym, arith, true, false, Bool, Option, Some, None, All, find, ⊎_elim}
+use Rattle.std.proofs.Common.{◌≡◌, ◌∙◌, ◌≤◌, ◌++◌, ◌&&◌, ◌==◌, ℕ, suc, List, [], ◌∷◌, ap, map, not, refl, sym, arith, true, false, Bool, Option, Some, None, All, find, ⊎_elim}
 use Rattle.std.specs.Prelude.{if◌then◌else◌, unwrap_or}
 use Rattle.std.specs.Option.{option_map, option_or}
 use Rattle.std.specs.List.{cons_option, flat_map, list_any, zip}
@@ -55,13 +55,13 @@ ended_later events chunks m n most ended = record {
 
 -- nothing begins at a slot by which all has ended
 nothing_begins : (events : List Event) (chunks : List FieldChunk) (fs : List ℕ) (n : ℕ) → AreEnded events chunks n → IsPlaced (field_lane events) [] chunks fs
-    → lane_timeline events chunks fs n ≡ None
-nothing_begins events chunks fs n ended placed = go (lane_timeline events chunks fs n) refl
+    → lane_timeline (event_at events) chunks fs n ≡ None
+nothing_begins events chunks fs n ended placed = go (lane_timeline (event_at events) chunks fs n) refl
   where
     no_event : event_at events n ≡ None
     no_event = free_none events n (free_over n n events ended.events_are (omega arith))
 
-    go : (begun : Option Unit) → lane_timeline events chunks fs n ≡ begun → lane_timeline events chunks fs n ≡ None
+    go : (begun : Option Unit) → lane_timeline (event_at events) chunks fs n ≡ begun → lane_timeline (event_at events) chunks fs n ≡ None
     go None is = is
     go (Some u) is =
         absurd (⊎_elim
@@ -74,9 +74,9 @@ nothing_begins events chunks fs n ended placed = go (lane_timeline events chunks
 
 -- so it has the null pair
 slot_silent : (events : List Event) (chunks : List FieldChunk) (fs : List ℕ) (n : ℕ) → AreEnded events chunks n → IsPlaced (field_lane events) [] chunks fs
-    → slot (lane_timeline events chunks fs) n ≡ null_pair
+    → slot (lane_timeline (event_at events) chunks fs) n ≡ null_pair
 slot_silent events chunks fs n ended placed =
-    ap (λ due. unwrap_or (option_or due (option_map (λ (unit : Unit). unit.pair) (lane_timeline events chunks fs n))) null_pair)
+    ap (λ due. unwrap_or (option_or due (option_map (λ (unit : Unit). unit.pair) (lane_timeline (event_at events) chunks fs n))) null_pair)
     (lane_ended events chunks fs n ended placed)
     ∙ ap (λ begun. unwrap_or (option_or None (option_map (λ (unit : Unit). unit.pair) begun)) null_pair) (nothing_begins events chunks fs n ended placed)
 
@@ -85,7 +85,7 @@ channel_silent : (list : Listing) (channel : Chan) (slots : List ℕ) (frame : �
     → IsChannelPlaced channel (slot_cues list channel) slots → list.frames ≤ frame → channel_pair list channel slots frame ≡ silent_pair list.rate channel frame
 channel_silent list channel slots frame formed ruled earliest past = at (has_slot_in (cadence_of list.rate channel) frame)
   where
-    silent : slot (lane_timeline (channel_events channel (slot_cues list channel)) (channel_chunks channel (slot_cues list channel)) slots)
+    silent : slot (lane_timeline (event_at (channel_events channel (slot_cues list channel))) (channel_chunks channel (slot_cues list channel)) slots)
         (slot_from (cadence_of list.rate channel) frame) ≡ null_pair
     silent =
         let events = channel_events channel (slot_cues list channel) in
@@ -96,7 +96,7 @@ channel_silent list channel slots frame formed ruled earliest past = at (has_slo
         earliest.placed
 
     at : (has : Bool)
-        → option_map (slot (lane_timeline (channel_events channel (slot_cues list channel)) (channel_chunks channel (slot_cues list channel)) slots))
+        → option_map (slot (lane_timeline (event_at (channel_events channel (slot_cues list channel))) (channel_chunks channel (slot_cues list channel)) slots))
         (if has then Some (slot_from (cadence_of list.rate channel) frame) else None) ≡ (if has then Some null_pair else None)
     at true = ap Some silent
     at false = refl

@@ -33,7 +33,7 @@ use Rattle.field_lanes.specs.ChannelLane.{IsChannelPlaced, channel_chunks, field
 use Rattle.frame_scheduler.specs.Columns.{Columns, first_pairs, pair_in}
 use Rattle.field_lanes.specs.DoubledPairs.{IsDoubled}
 use Rattle.field_lanes.specs.LaneDoubling.{AreDoubledControls, AreEnded}
-use Rattle.field_lanes.specs.LaneEvents.{AreOver}
+use Rattle.field_lanes.specs.LaneEvents.{AreOver, event_at}
 use Rattle.field_lanes.specs.LaneTimeline.{lane_timeline}
 use Rattle.frame_scheduler.specs.Planned.{IsListPlaced, Placement, columns_of}
 use Rattle.frame_scheduler.specs.SlotLists.{slot_cues, slots_in_list}
@@ -97,7 +97,7 @@ channel_controls list channel formed ruled =
 
 -- what begins in the slots of a channel
 abbrev pub channel_timeline : Listing → Chan → List ℕ → Timeline
-channel_timeline list channel placed = lane_timeline (channel_events channel (slot_cues list channel)) (channel_chunks channel (slot_cues list channel)) placed
+channel_timeline list channel placed = lane_timeline (event_at (channel_events channel (slot_cues list channel))) (channel_chunks channel (slot_cues list channel)) placed
 
 -- all that a channel sends has ended when the list has
 pub channel_ended : (list : Listing) (channel : Chan) → IsFormed list → IsRuled list

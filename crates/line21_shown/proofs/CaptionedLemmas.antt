@@ -160,7 +160,7 @@ module _ (P : Pair → Type 0) (written_is : (in_field : FieldNumber) (code : Co
 
   -- what begins on a channel
   pub channel_all : (cues : List Cue) (channel : Chan) (placed : List ℕ) → All IsCueFormed cues → (n : ℕ) (u : Unit)
-      → lane_timeline (channel_events channel cues) (channel_chunks channel cues) placed n ≡ Some u → P u.pair
+      → lane_timeline (event_at (channel_events channel cues)) (channel_chunks channel cues) placed n ≡ Some u → P u.pair
   channel_all cues channel placed formed n u is =
       let events = channel_events channel cues in
       let chunks = channel_chunks channel cues in
@@ -174,7 +174,7 @@ module _ (P : Pair → Type 0) (written_is : (in_field : FieldNumber) (code : Co
   slots_all cues channel placed formed null n = at_slot (repeat_at t n) refl (t n) refl
     where
       t : Timeline
-      t = lane_timeline (channel_events channel cues) (channel_chunks channel cues) placed
+      t = lane_timeline (event_at (channel_events channel cues)) (channel_chunks channel cues) placed
 
       begun : (m : ℕ) (o : Option Unit) (p : Pair) → t m ≡ o → repeat_of o ≡ Some p → P p
       begun m None p is due = cc

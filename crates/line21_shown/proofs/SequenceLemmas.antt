@@ -161,7 +161,7 @@ authored_is channel cues f =
 
 -- the timeline of a channel begins with its cues
 pub begins : (channel : Chan) (cues : List Cue) (placed : List ℕ) → IsPlaced (field_lane (channel_events channel cues)) [] (channel_chunks channel cues) placed
-    → Continues (field_of_channel channel) (lane_timeline (channel_events channel cues) (channel_chunks channel cues) placed) 0 None (cues_on channel cues)
+    → Continues (field_of_channel channel) (lane_timeline (event_at (channel_events channel cues)) (channel_chunks channel cues) placed) 0 None (cues_on channel cues)
 begins channel cues placed stand = record {
   chunks = channel_chunks channel cues;
   frames = placed;
@@ -187,9 +187,9 @@ lines_are (cue ∷ cues) captions = (captions.0.line21, lines_are cues captions.
 -- the cues of a channel that are in sequence and placed, at a slot that is settled
 pub channel_shown : (slots : ℕ) (channel : Chan) (cues : List Cue) (placed : List ℕ) → All IsCueFormed cues → AreInSlots slots (cues_on channel cues)
     → IsPlaced (field_lane (channel_events channel cues)) [] (channel_chunks channel cues) placed → (k : ℕ) → AllByRecursion (IsSettledFor k) (cues_on channel cues)
-    → (acts (lane_timeline (channel_events channel cues) (channel_chunks channel cues) placed) (suc k)).displayed ≡ authored_grid channel cues k
+    → (acts (lane_timeline (event_at (channel_events channel cues)) (channel_chunks channel cues) placed) (suc k)).displayed ≡ authored_grid channel cues k
 channel_shown slots channel cues placed formed sequence stands_so k settled =
-    let t = lane_timeline (channel_events channel cues) (channel_chunks channel cues) placed in
+    let t = lane_timeline (event_at (channel_events channel cues)) (channel_chunks channel cues) placed in
     let captions = recursion_from_All IsCaption (cues_on channel cues) (captions_are channel cues formed) in
     let stand = placed_from (channel_events channel cues) [] 0 (channel_chunks channel cues) placed (omega arith) stands_so in
     let loaded = cues_loaded (cues_on channel cues) (channel_chunks channel cues) (lines_are (cues_on channel cues) captions) (chunks_are channel 1 cues)

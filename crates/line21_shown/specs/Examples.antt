@@ -18,6 +18,7 @@ use Rattle.line21_author.specs.CueEvents.{channel_events}
 use Rattle.field_lanes.specs.ChannelLane.{channel_chunks}
 use Rattle.field_lanes.specs.LaneTimeline.{lane_timeline}
 use Rattle.field_lanes.specs.Timeline.{column}
+use Rattle.field_lanes.specs.LaneEvents.{event_at}
 
 -- a pair, of its two bytes with their parity bits
 abbrev pub pair : ℕ → ℕ → Pair
@@ -58,7 +59,7 @@ pub record Example : Type 0 where
 -- the pairs are those of the cues
 abbrev pub ArePairsSent : Example → Type 0
 ArePairsSent example =
-    column (lane_timeline (channel_events Cc1 example.cues) (channel_chunks Cc1 example.cues) example.placed) example.frames
+    column (lane_timeline (event_at (channel_events Cc1 example.cues)) (channel_chunks Cc1 example.cues) example.placed) example.frames
     ≡ example.pairs
 
 -- the screen is authored for a frame, and the pairs display it at that frame

@@ -7,13 +7,13 @@ use Rattle.std.proofs.lemmas.Bool.Decides.{nat_tests}
 use Rattle.line21_codes.specs.Reading.{code_of}
 use Rattle.line21_author.specs.declared.unit.Unit.{Unit}
 use Rattle.line21_screen.specs.declared.modes.Mode.{Mode}
-use Rattle.field_lanes.specs.LaneTimeline.{stands}
+use Rattle.field_lanes.specs.LaneTimeline.{stands, lane_timeline}
 use Rattle.field_lanes.specs.Timeline.{Timeline}
 use Rattle.resumed_lanes.specs.Parts.{part_slots}
 use Rattle.resumed_lanes.specs.ResumedLane.{IsResume, Stand}
 use Rattle.resumed_lanes.specs.Slots.{Slots}
 use Rattle.resumed_lanes.specs.declared.part.Part.{Part}
-use Rattle.shared_field_shown.specs.Lanes.{AreCues, AreQuiet, Begins, Continues, IsBehind, IsLane, again, part_chunks, plain_timeline}
+use Rattle.shared_field_shown.specs.Lanes.{AreCues, AreQuiet, Begins, Continues, IsBehind, IsLane, again, part_chunks}
 use Rattle.shared_field_shown.specs.Resuming.{AreResumed, IsResumed, keeps_mode, opens}
 
 -- a unit takes a slot, and two where it is doubled
@@ -235,6 +235,6 @@ module _ (slots : Slots) (events t : Timeline)
 
 -- the first units of a lane that come again change nothing
 pub lane_resumed : (slots : Slots) (events : Timeline) (parts : List Part) (fs : List ℕ) (rs : List (Option ℕ)) → IsLane slots events parts fs rs
-    → AreResumed (plain_timeline events parts fs) (again parts rs)
+    → AreResumed (lane_timeline events (part_chunks parts) fs) (again parts rs)
 lane_resumed slots events parts fs rs is =
-    resumed_all slots events (plain_timeline events parts fs) is.held 0 None parts fs rs is.stand (λ n from. refl) is.cues is.quiet tt
+    resumed_all slots events (lane_timeline events (part_chunks parts) fs) is.held 0 None parts fs rs is.stand (λ n from. refl) is.cues is.quiet tt

@@ -40,7 +40,7 @@ use Rattle.resumed_lanes.specs.ResumedLane.{ResumesAt, Stand}
 use Rattle.resumed_lanes.specs.Slots.{Slots}
 use Rattle.resumed_lanes.specs.Spans.{in_spans}
 use Rattle.resumed_lanes.specs.declared.part.Part.{Part}
-use Rattle.shared_field_shown.specs.Lanes.{AreCues, AreQuiet, IsBehind, part_chunks, plain_timeline}
+use Rattle.shared_field_shown.specs.Lanes.{AreCues, AreQuiet, IsBehind, part_chunks}
 use Rattle.shared_field_shown.specs.ChannelParts.{channel_parts}
 use Rattle.shared_field_shown.specs.Resuming.{keeps_mode, opens}
 use Rattle.shared_field_shown.specs.Seen.{field_timeline, as_second, first_events, second_events, second_part, second_parts, second_timeline, second_unit}
@@ -161,7 +161,7 @@ module _ (f : FieldNumber) where
   first_second None v = refl
   first_second (Some u) v = refl
 
-  plain_second : (events : Timeline) (parts : List Part) (fs : List ℕ) (n : ℕ) → plain_timeline (second_timeline f events) (second_parts f parts) fs n ≡ second_timeline f (plain_timeline events parts fs) n
+  plain_second : (events : Timeline) (parts : List Part) (fs : List ℕ) (n : ℕ) → lane_timeline (second_timeline f events) (part_chunks (second_parts f parts)) fs n ≡ second_timeline f (lane_timeline events (part_chunks parts) fs) n
   plain_second events parts fs n =
       ap (option_or (second_timeline f events n)) (stands_second parts fs n) ∙ first_second (events n) (stands (part_chunks parts) fs n)
 
@@ -230,7 +230,7 @@ module _ (f : FieldNumber) where
             let same : part.chunk.unit ≡ unit = cc in subst (IsOfChannel One) same own.0
         by_test false test rest = let on : stands (part_chunks ps) fs n ≡ Some unit = sym (rw test refl) ∙ is in rest on
 
-    plain_own : (fs : List ℕ) (n : ℕ) (unit : Unit) → plain_timeline events parts fs n ≡ Some unit → IsOfChannel One unit
+    plain_own : (fs : List ℕ) (n : ℕ) (unit : Unit) → lane_timeline events (part_chunks parts) fs n ≡ Some unit → IsOfChannel One unit
     plain_own fs n unit is = by_event (events n) refl
       where
         by_event : (u : Option Unit) → events n ≡ u → IsOfChannel One unit
@@ -357,7 +357,7 @@ module _ (of_list : Chan) (slots : ℕ) (cues others : List Cue) (fs gs : List �
       [] 0 refl (channel_parts of_list others) gs qs
       (back (field_of_channel of_list) (second_slots (first_events of_list cues) (second_events of_list others) (in_spans (channel_parts of_list cues) fs)) 0 (channel_parts of_list others) gs qs are.beside))
 
-  plain_is : (all : List Cue) (hs : List ℕ) (n : ℕ) → plain_timeline (first_events of_list all) (channel_parts of_list all) hs n ≡ lane_timeline (channel_events of_list all) (channel_chunks of_list all) hs n
+  plain_is : (all : List Cue) (hs : List ℕ) (n : ℕ) → lane_timeline (first_events of_list all) (part_chunks (channel_parts of_list all)) hs n ≡ lane_timeline (event_at (channel_events of_list all)) (channel_chunks of_list all) hs n
   plain_is all hs n = ap (λ (l : List FieldChunk). option_or (event_at (channel_events of_list all) n) (stands l hs n)) (channel_chunks_from_back of_list 1 all)
 
   acts_same : (t u : Timeline) → ((n : ℕ) → t n ≡ u n) → (n : ℕ) → acts t n ≡ acts u n
@@ -371,18 +371,18 @@ module _ (of_list : Chan) (slots : ℕ) (cues others : List Cue) (fs gs : List �
       record {
         first = λ settled.
             ap (λ (s : ChannelState). s.displayed) alone.first
-            ∙ ap (λ (s : ChannelState). s.displayed) (acts_same (plain_timeline (first_events of_list cues) (channel_parts of_list cues) fs)
-            (lane_timeline (channel_events of_list cues) (channel_chunks of_list cues) fs) (plain_is cues fs) (suc k))
+            ∙ ap (λ (s : ChannelState). s.displayed) (acts_same (lane_timeline (first_events of_list cues) (part_chunks (channel_parts of_list cues)) fs)
+            (lane_timeline (event_at (channel_events of_list cues)) (channel_chunks of_list cues) fs) (plain_is cues fs) (suc k))
             ∙ channel_shown slots of_list cues fs are.formed are.sequence placed k settled;
         second = λ settled.
             ap (λ (s : ChannelState). s.displayed) alone.second
-            ∙ ap (λ (s : ChannelState). s.displayed) (acts_same (plain_timeline (second_events of_list others) (second_parts (field_of_channel of_list) (channel_parts of_list others)) gs)
-            (second_timeline (field_of_channel of_list) (plain_timeline (first_events of_list others) (channel_parts of_list others) gs))
+            ∙ ap (λ (s : ChannelState). s.displayed) (acts_same (lane_timeline (second_events of_list others) (part_chunks (second_parts (field_of_channel of_list) (channel_parts of_list others))) gs)
+            (second_timeline (field_of_channel of_list) (lane_timeline (first_events of_list others) (part_chunks (channel_parts of_list others)) gs))
             (plain_second (field_of_channel of_list) (first_events of_list others) (channel_parts of_list others) gs) (suc k))
-            ∙ ap (λ (s : ChannelState). s.displayed) (acts_second (field_of_channel of_list) (plain_timeline (first_events of_list others) (channel_parts of_list others) gs)
+            ∙ ap (λ (s : ChannelState). s.displayed) (acts_second (field_of_channel of_list) (lane_timeline (first_events of_list others) (part_chunks (channel_parts of_list others)) gs)
             (plain_own (field_of_channel of_list) (first_events of_list others) (channel_parts of_list others) others_listed gs) (suc k))
-            ∙ ap (λ (s : ChannelState). s.displayed) (acts_same (plain_timeline (first_events of_list others) (channel_parts of_list others) gs)
-            (lane_timeline (channel_events of_list others) (channel_chunks of_list others) gs) (plain_is others gs) (suc k))
+            ∙ ap (λ (s : ChannelState). s.displayed) (acts_same (lane_timeline (first_events of_list others) (part_chunks (channel_parts of_list others)) gs)
+            (lane_timeline (event_at (channel_events of_list others)) (channel_chunks of_list others) gs) (plain_is others gs) (suc k))
             ∙ channel_shown slots of_list others gs are.others_formed are.others_sequence others_placed k settled;
       }
 

@@ -11,7 +11,7 @@ use Rattle.line21_codes.specs.declared.pairs.Pair.{Pair}
 use Rattle.line21_codes.specs.Reading.{code_of}
 use Rattle.line21_author.specs.declared.unit.Unit.{Unit}
 use Rattle.line21_screen.specs.Fields.{channel}
-use Rattle.field_lanes.specs.LaneTimeline.{stands}
+use Rattle.field_lanes.specs.LaneTimeline.{stands, lane_timeline}
 use Rattle.field_lanes.specs.DoubledPairs.{IsDoubled}
 use Rattle.field_lanes.specs.Timeline.{Timeline, column, over, repeat_at, repeat_of}
 use Rattle.field_lanes.proofs.ColumnLemmas.{column_doubled}
@@ -22,7 +22,7 @@ use Rattle.resumed_lanes.specs.Slots.{Slots}
 use Rattle.resumed_lanes.specs.Spans.{GoOn, covers, in_spans}
 use Rattle.resumed_lanes.proofs.SpansLemmas.{spans_covered}
 use Rattle.resumed_lanes.specs.declared.part.Part.{Part}
-use Rattle.shared_field_shown.specs.Lanes.{AreCues, IsBehind, IsLane, again, part_chunks, plain_timeline, whole}
+use Rattle.shared_field_shown.specs.Lanes.{AreCues, IsBehind, IsLane, again, part_chunks, whole}
 use Rattle.shared_field_shown.specs.Own.{own_of}
 use Rattle.shared_field_shown.specs.Sharing.{AreFor, AreShared, IsLed, is_text}
 use Rattle.resumed_lanes.specs.FieldSlots.{first_slots, holds, second_slots}
@@ -203,15 +203,15 @@ module _ (c : DataChannel) (slots : Slots) (events : Timeline) (parts : List Par
   source : (n : ℕ) (unit : Unit) → whole events parts fs rs n ≡ Some unit → Source slots (covers 0 parts fs) events n unit
   source n unit is =
       ⊎_elim
-      (λ (at : plain_timeline events parts fs n ≡ Some unit).
+      (λ (at : lane_timeline events (part_chunks parts) fs n ≡ Some unit).
       ⊎_elim
       (λ (event : events n ≡ Some unit). inl event)
       (λ (w : (events n ≡ None) × (stands (part_chunks parts) fs n ≡ Some unit)).
       let o = unit_occupies slots 0 parts fs rs n unit stand w.1 in inr (o.here, o.next))
       (or_else (events n) (stands (part_chunks parts) fs n) unit at))
-      (λ (w : (plain_timeline events parts fs n ≡ None) × (again parts rs n ≡ Some unit)).
+      (λ (w : (lane_timeline events (part_chunks parts) fs n ≡ None) × (again parts rs n ≡ Some unit)).
       let o = again_occupies slots 0 parts fs rs n unit stand w.1 in inr (o.here, λ doubled. o.next))
-      (or_else (plain_timeline events parts fs n) (again parts rs n) unit is)
+      (or_else (lane_timeline events (part_chunks parts) fs n) (again parts rs n) unit is)
 
   -- no event begins in a slot of the lane's
   no_event : (n : ℕ) → slots.free n ≡ true → events n ≡ None
@@ -231,25 +231,25 @@ module _ (c : DataChannel) (slots : Slots) (events : Timeline) (parts : List Par
   spaced : (n : ℕ) (unit : Unit) → whole events parts fs rs n ≡ Some unit → unit.doubled ≡ true → whole events parts fs rs (suc n) ≡ None
   spaced n unit is doubled =
       ⊎_elim
-      (λ (at : plain_timeline events parts fs n ≡ Some unit).
+      (λ (at : lane_timeline events (part_chunks parts) fs n ≡ Some unit).
       ⊎_elim
       (λ (event : events n ≡ Some unit).
       let taken = (held n unit event).1 in
-      none_both (plain_timeline events parts fs (suc n)) (again parts rs (suc n))
+      none_both (lane_timeline events (part_chunks parts) fs (suc n)) (again parts rs (suc n))
       (none_both (events (suc n)) (stands (part_chunks parts) fs (suc n)) (listed.apart n unit event) (no_unit_behind (suc n) taken))
       (no_again_behind (suc n) taken))
       (λ (w : (events n ≡ None) × (stands (part_chunks parts) fs n ≡ Some unit)).
       let o = unit_occupies slots 0 parts fs rs n unit stand w.1 in
-      none_both (plain_timeline events parts fs (suc n)) (again parts rs (suc n))
+      none_both (lane_timeline events (part_chunks parts) fs (suc n)) (again parts rs (suc n))
       (none_both (events (suc n)) (stands (part_chunks parts) fs (suc n)) (no_event (suc n) (o.next doubled).free) (o.no_unit doubled))
       (o.no_again doubled))
       (or_else (events n) (stands (part_chunks parts) fs n) unit at))
-      (λ (w : (plain_timeline events parts fs n ≡ None) × (again parts rs n ≡ Some unit)).
+      (λ (w : (lane_timeline events (part_chunks parts) fs n ≡ None) × (again parts rs n ≡ Some unit)).
       let o = again_occupies slots 0 parts fs rs n unit stand w.1 in
-      none_both (plain_timeline events parts fs (suc n)) (again parts rs (suc n))
+      none_both (lane_timeline events (part_chunks parts) fs (suc n)) (again parts rs (suc n))
       (none_both (events (suc n)) (stands (part_chunks parts) fs (suc n)) (no_event (suc n) o.next.free) o.no_unit)
       o.no_again)
-      (or_else (plain_timeline events parts fs n) (again parts rs n) unit is)
+      (or_else (lane_timeline events (part_chunks parts) fs n) (again parts rs n) unit is)
 
   -- what is said of each unit is so of one that begins
   part_own : (ps : List Part) (gs : List ℕ) (n : ℕ) (unit : Unit) → AreOfChannel c ps → stands (part_chunks ps) gs n ≡ Some unit → IsOfChannel c unit
@@ -278,13 +278,13 @@ module _ (c : DataChannel) (slots : Slots) (events : Timeline) (parts : List Par
   all_own : (n : ℕ) (unit : Unit) → whole events parts fs rs n ≡ Some unit → IsOfChannel c unit
   all_own n unit is =
       ⊎_elim
-      (λ (at : plain_timeline events parts fs n ≡ Some unit).
+      (λ (at : lane_timeline events (part_chunks parts) fs n ≡ Some unit).
       ⊎_elim
       (λ (event : events n ≡ Some unit). listed.events_own n unit event)
       (λ (w : (events n ≡ None) × (stands (part_chunks parts) fs n ≡ Some unit)). part_own parts fs n unit listed.parts_own w.1)
       (or_else (events n) (stands (part_chunks parts) fs n) unit at))
-      (λ (w : (plain_timeline events parts fs n ≡ None) × (again parts rs n ≡ Some unit)). again_own parts rs n unit listed.parts_own w.1)
-      (or_else (plain_timeline events parts fs n) (again parts rs n) unit is)
+      (λ (w : (lane_timeline events (part_chunks parts) fs n ≡ None) × (again parts rs n ≡ Some unit)). again_own parts rs n unit listed.parts_own w.1)
+      (or_else (lane_timeline events (part_chunks parts) fs n) (again parts rs n) unit is)
 
   module _ (sound : (n : ℕ) → slots.foreign n ≡ true → slots.free n ≡ false) where
     abbrev held_at : (n : ℕ) (unit : Unit) → events n ≡ Some unit → (slots.free n ≡ false) × (slots.free (n + 1) ≡ false)
@@ -304,16 +304,16 @@ module _ (c : DataChannel) (slots : Slots) (events : Timeline) (parts : List Par
     is_led : (other : Timeline) → ((m : ℕ) → covers 0 parts fs m ≡ true → slots.foreign m ≡ false → other m ≡ None) → IsLed (whole events parts fs rs) other
     is_led other clear n unit is text =
         ⊎_elim
-        (λ (at : plain_timeline events parts fs n ≡ Some unit).
+        (λ (at : lane_timeline events (part_chunks parts) fs n ≡ Some unit).
         ⊎_elim
         (λ (event : events n ≡ Some unit). let wrong : is_text (code_of unit.pair) ≡ false = listed.controls n unit event in absurd (cc))
         (λ (w : (events n ≡ None) × (stands (part_chunks parts) fs n ≡ Some unit)).
-        led_all slots events (plain_timeline events parts fs) (whole events parts fs rs) other held_at sound 0 None parts fs rs stand (λ m from. refl) (λ m from. refl) clear listed.cues tt n unit w.1 text)
+        led_all slots events (lane_timeline events (part_chunks parts) fs) (whole events parts fs rs) other held_at sound 0 None parts fs rs stand (λ m from. refl) (λ m from. refl) clear listed.cues tt n unit w.1 text)
         (or_else (events n) (stands (part_chunks parts) fs n) unit at))
-        (λ (w : (plain_timeline events parts fs n ≡ None) × (again parts rs n ≡ Some unit)).
+        (λ (w : (lane_timeline events (part_chunks parts) fs n ≡ None) × (again parts rs n ≡ Some unit)).
         let resumed = lane_resumed slots events parts fs rs is_lane n unit w.1 in
         let wrong : is_text (code_of unit.pair) ≡ false = opener_plain (code_of unit.pair) resumed.mode resumed.opens_it in absurd (cc))
-        (or_else (plain_timeline events parts fs n) (again parts rs n) unit is)
+        (or_else (lane_timeline events (part_chunks parts) fs n) (again parts rs n) unit is)
 
 -- the tests of the slots
 pub both_not : (a b : Bool) → (not a && not b) ≡ true → (a ≡ false) × (b ≡ false)
@@ -419,7 +419,7 @@ module _ (in_field : FieldNumber) (one two : Timeline) (parts others : List Part
 
   -- in the first lane's spans the second has nothing but its events
   clear1 : (m : ℕ) → covers 0 parts fs m ≡ true → slots1.foreign m ≡ false → t2 m ≡ None
-  clear1 m spanned plain_timeline' =
+  clear1 m spanned own =
       nothing_is (t2 m)
       (λ unit is.
       ⊎_elim
@@ -430,8 +430,8 @@ module _ (in_field : FieldNumber) (one two : Timeline) (parts others : List Part
 
   -- in slots that aren't foreign to the second lane the first has nothing
   clear2 : (m : ℕ) → slots2.foreign m ≡ false → t1 m ≡ None
-  clear2 m plain_timeline' =
-      let none = either_false (holds one m) (spans m) plain_timeline' in
+  clear2 m own =
+      let none = either_false (holds one m) (spans m) own in
       nothing_is (t1 m)
       (λ unit is.
       ⊎_elim
@@ -525,11 +525,11 @@ module _ (in_field : FieldNumber) (one two : Timeline) (parts others : List Part
     first =
         ap (channel One) (fields_read in_field (over t1 t2) marked n) ∙ channels_own in_field (over t1 t2) One n
         ∙ acts_same (own_of in_field One (over t1 t2)) t1 (λ m. (shared_own in_field t1 t2 shared m).first) n
-        ∙ resumes_idle (plain_timeline one parts fs) (again parts rs) (lane_resumed slots1 one parts fs rs (is_lane One slots1 one parts fs rs are.first are.stand held1 sound1)) n;
+        ∙ resumes_idle (lane_timeline one (part_chunks parts) fs) (again parts rs) (lane_resumed slots1 one parts fs rs (is_lane One slots1 one parts fs rs are.first are.stand held1 sound1)) n;
     second =
         ap (channel Two) (fields_read in_field (over t1 t2) marked n) ∙ channels_own in_field (over t1 t2) Two n
         ∙ acts_same (own_of in_field Two (over t1 t2)) t2 (λ m. (shared_own in_field t1 t2 shared m).second) n
-        ∙ resumes_idle (plain_timeline two others gs) (again others qs) (lane_resumed slots2 two others gs qs (is_lane Two slots2 two others gs qs are.second are.beside held2 sound2)) n;
+        ∙ resumes_idle (lane_timeline two (part_chunks others) gs) (again others qs) (lane_resumed slots2 two others gs qs (is_lane Two slots2 two others gs qs are.second are.beside held2 sound2)) n;
   }
 
 pub together_alone : TogetherIsAlone

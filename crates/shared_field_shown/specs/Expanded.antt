@@ -33,7 +33,7 @@ spread (f ∷ fs) (Some at ∷ rs) = at ∷ f ∷ spread fs rs
 -- it is placed in the lane of the own events, and gives the same
 pub record IsOneLane (events : List Event) (parts : List Part) (fs : List ℕ) (rs : List (Option ℕ)) : Type 0 where
   pub placed : IsPlaced (field_lane events) [] (expanded parts rs) (spread fs rs)
-  pub timeline : (n : ℕ) → lane_timeline events (expanded parts rs) (spread fs rs) n ≡ whole (event_at events) parts fs rs n
+  pub timeline : (n : ℕ) → lane_timeline (event_at events) (expanded parts rs) (spread fs rs) n ≡ whole (event_at events) parts fs rs n
 
 -- so a lane with units that come again is a lane of a longer list of units
 abbrev pub ResumedIsOneLane : Type 0

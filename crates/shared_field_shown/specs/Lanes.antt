@@ -5,7 +5,7 @@ use Rattle.line21_codes.specs.Reading.{code_of}
 use Rattle.line21_author.specs.declared.unit.Unit.{Unit}
 use Rattle.line21_screen.specs.declared.modes.Mode.{Mode}
 use Rattle.field_lanes.specs.declared.chunk.FieldChunk.{FieldChunk}
-use Rattle.field_lanes.specs.LaneTimeline.{stands}
+use Rattle.field_lanes.specs.LaneTimeline.{lane_timeline}
 use Rattle.field_lanes.specs.Timeline.{Timeline, over}
 use Rattle.resumed_lanes.specs.ResumedLane.{Stand}
 use Rattle.resumed_lanes.specs.Slots.{AreSound, Slots}
@@ -24,13 +24,9 @@ again (part ∷ parts) (Some at ∷ rs) n = if n == at then Some part.first else
 abbrev pub part_chunks : List Part → List FieldChunk
 part_chunks parts = map (λ part. part.chunk) parts
 
--- the lane's own timeline, without them
-abbrev pub plain_timeline : Timeline → List Part → List ℕ → Timeline
-plain_timeline events parts fs = over events (stands (part_chunks parts) fs)
-
--- with the first units that come again
+-- the lane's own timeline, with the first units that come again
 abbrev pub whole : Timeline → List Part → List ℕ → List (Option ℕ) → Timeline
-whole events parts fs rs = over (plain_timeline events parts fs) (again parts rs)
+whole events parts fs rs = over (lane_timeline events (part_chunks parts) fs) (again parts rs)
 
 -- a cue's first unit begins its mode, and is doubled
 pub record Begins (part : Part) : Type 0 where

@@ -16,8 +16,9 @@ use Rattle.resumed_lanes.specs.ResumedLane.{Stand}
 use Rattle.resumed_lanes.specs.FieldSlots.{first_slots, holds, second_slots}
 use Rattle.resumed_lanes.specs.Spans.{in_spans}
 use Rattle.resumed_lanes.specs.declared.part.Part.{Part}
-use Rattle.shared_field_shown.specs.Lanes.{AreCues, AreQuiet, plain_timeline, whole}
+use Rattle.shared_field_shown.specs.Lanes.{AreCues, AreQuiet, whole, part_chunks}
 use Rattle.shared_field_shown.specs.Sharing.{IsFor, is_text}
+use Rattle.field_lanes.specs.LaneTimeline.{lane_timeline}
 
 -- what begins on a channel is for it, and doubled exactly where it is a control pair
 pub record IsOfChannel (of_channel : DataChannel) (unit : Unit) : Type 0 where
@@ -50,8 +51,8 @@ pub record AreTogether (one two : Timeline) (parts others : List Part) (fs gs : 
 
 -- each channel gets what its own list gives it, as if it were alone and no unit came again
 pub record EachIsAlone (in_field : FieldNumber) (one two : Timeline) (parts others : List Part) (fs gs : List ℕ) (rs qs : List (Option ℕ)) (n : ℕ) : Type 0 where
-  pub first : channel data_channels.One (after in_field (pairs_before (slot (over (whole one parts fs rs) (whole two others gs qs))) n)) ≡ acts (plain_timeline one parts fs) n
-  pub second : channel data_channels.Two (after in_field (pairs_before (slot (over (whole one parts fs rs) (whole two others gs qs))) n)) ≡ acts (plain_timeline two others gs) n
+  pub first : channel data_channels.One (after in_field (pairs_before (slot (over (whole one parts fs rs) (whole two others gs qs))) n)) ≡ acts (lane_timeline one (part_chunks parts) fs) n
+  pub second : channel data_channels.Two (after in_field (pairs_before (slot (over (whole one parts fs rs) (whole two others gs qs))) n)) ≡ acts (lane_timeline two (part_chunks others) gs) n
 
 abbrev pub TogetherIsAlone : Type 0
 TogetherIsAlone = (in_field : FieldNumber) (one two : Timeline) (parts others : List Part) (fs gs : List ℕ) (rs qs : List (Option ℕ))

@@ -183,10 +183,10 @@ module _ (events : List Event) (t : Timeline) (free : ℕ → Bool) where
 
 -- a lane whose free slots have null pairs, and lie in no time of its cues, leaves them free
 module _ (events : List Event) (parts : List Part) (fs : List ℕ) (free : ℕ → Bool)
-    (listed : IsListed One (event_at events) parts) (placed : IsPlaced (field_lane events) [] (part_chunks parts) fs) (marked : IsMarked (lane_timeline events (part_chunks parts) fs))
-    (null : (n : ℕ) → free n ≡ true → is_null (slot (lane_timeline events (part_chunks parts) fs) n) ≡ true) (closed : AreClosed free parts) where
+    (listed : IsListed One (event_at events) parts) (placed : IsPlaced (field_lane events) [] (part_chunks parts) fs) (marked : IsMarked (lane_timeline (event_at events) (part_chunks parts) fs))
+    (null : (n : ℕ) → free n ≡ true → is_null (slot (lane_timeline (event_at events) (part_chunks parts) fs) n) ≡ true) (closed : AreClosed free parts) where
   abbrev t : Timeline
-  t = lane_timeline events (part_chunks parts) fs
+  t = lane_timeline (event_at events) (part_chunks parts) fs
 
   own : (n : ℕ) (unit : Unit) → t n ≡ Some unit → IsFor One (code_of unit.pair)
   own n unit is =
@@ -288,13 +288,13 @@ captions_leave_free list slots formed ruled earliest =
     let free = free_in list slots in
     let back = channel_chunks_from_back Cc3 1 (slot_cues list Cc3) in
     let captioned = channel_captioned list Cc3 slots formed ruled earliest in
-    let marked : IsMarked (lane_timeline events (channel_chunks Cc3 cues) slots) = record { marked = captioned.marked; spaced = captioned.spaced } in
-    subst (λ (ps : List FieldChunk). LeaveFree (lane_timeline (channel_events Cc3 (slot_cues list Cc3)) ps slots) (free_in list slots)) back
+    let marked : IsMarked (lane_timeline (event_at events) (channel_chunks Cc3 cues) slots) = record { marked = captioned.marked; spaced = captioned.spaced } in
+    subst (λ (ps : List FieldChunk). LeaveFree (lane_timeline (event_at (channel_events Cc3 (slot_cues list Cc3))) ps slots) (free_in list slots)) back
     (leaves_free events (channel_parts Cc3 cues) slots free
     (channel_listed Cc3 (slots_in_list list Cc3) cues (slot_cues_formed list formed Cc3) (slot_sequence list ruled Cc3))
     (subst (λ (ps : List FieldChunk). IsPlaced (field_lane (channel_events Cc3 (slot_cues list Cc3))) [] ps slots) (sym back) earliest.placed)
-    (subst (λ (ps : List FieldChunk). IsMarked (lane_timeline (channel_events Cc3 (slot_cues list Cc3)) ps slots)) (sym back) marked)
+    (subst (λ (ps : List FieldChunk). IsMarked (lane_timeline (event_at (channel_events Cc3 (slot_cues list Cc3))) ps slots)) (sym back) marked)
     (λ n here.
-    subst (λ (ps : List FieldChunk). is_null (slot (lane_timeline (channel_events Cc3 (slot_cues list Cc3)) ps slots) n) ≡ true) (sym back)
+    subst (λ (ps : List FieldChunk). is_null (slot (lane_timeline (event_at (channel_events Cc3 (slot_cues list Cc3))) ps slots) n) ≡ true) (sym back)
     (and_parts (not (is_loading Cc3 list.cues (frame_of_slot list n))) (is_null (slot (captions_of list slots) n)) here).1)
     (closed_parts free (cadence_of list.rate Cc3) 1 list.cues (λ m is. rw is refl)))

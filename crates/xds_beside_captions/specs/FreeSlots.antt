@@ -16,6 +16,7 @@ use Rattle.field_lanes.specs.LaneTimeline.{lane_timeline}
 use Rattle.frame_scheduler.specs.SlotLists.{slot_cues}
 use Rattle.field_lanes.specs.Timeline.{Timeline}
 use Rattle.xds_beside_captions.specs.PacketTimeline.{LeaveFree}
+use Rattle.field_lanes.specs.LaneEvents.{event_at}
 
 -- the frame lies in the time from LOAD up to SHOW of a cue on the channel
 abbrev pub is_loading : Chan → List Cue → ℕ → Bool
@@ -27,7 +28,7 @@ frame_of_slot list n = slot_frame (cadence_of list.rate Cc3) n
 
 -- what begins in each slot of field 2, where the units of CC3 stand in these slots
 abbrev pub captions_of : Listing → List ℕ → Timeline
-captions_of list slots = lane_timeline (channel_events Cc3 (slot_cues list Cc3)) (channel_chunks Cc3 (slot_cues list Cc3)) slots
+captions_of list slots = lane_timeline (event_at (channel_events Cc3 (slot_cues list Cc3))) (channel_chunks Cc3 (slot_cues list Cc3)) slots
 
 -- a slot is free where its frame lies in no such time of a CC3 cue and its pair is null
 abbrev pub free_in : Listing → List ℕ → ℕ → Bool
