@@ -2,10 +2,11 @@
 -- What a line 21 channel is to show at a frame, by the LOAD, SHOW and HIDE of its cues and the rows and columns of their
 -- runs alone (caption area, pop-on, paint-on and roll-up captions: CTA-608-E; 47 CFR 79.101). No byte and no receiver
 -- stands in it.
-use Rattle.std.specs.Prelude.{◌≡◌, ℕ, ◌+◌, ◌-◌, ◌≤◌, ◌&&◌, nat_le, nat_lt, Bool, false, if◌then◌else◌, List, [], ◌∷◌, reverse, slice_get, slice_index_or, All, Option, Some, None}
+use Rattle.std.specs.Prelude.{◌≡◌, ℕ, ◌+◌, ◌-◌, ◌≤◌, ◌&&◌, nat_le, nat_lt, false, if◌then◌else◌, List, [], ◌∷◌, reverse, slice_get, slice_index_or, All, Option, Some, None}
 use Rattle.line21_codes.specs.declared.channels.Chan.{Chan}
 use Rattle.line21_codes.specs.declared.styles.Cell.{Cell}
 use Rattle.cue_types.specs.Channels.{cues_on}
+use Rattle.cue_types.specs.Hide.{hide_is}
 use Rattle.cue_types.specs.declared.cue.Cue.{Cue}
 use Rattle.cue_types.specs.declared.cue.Kind.{Kind}
 use Rattle.cue_types.specs.declared.cue.Kind.TheVariants as kind
@@ -62,15 +63,10 @@ shown_from (kind.Paint channel) cue earlier = cells_of cue.runs
 shown_from (kind.Roll channel rows) cue earlier = chain_rows rows (base_row cue.runs) (chain_of cue earlier)
 shown_from (kind.Win window) cue earlier = blank
 
--- the HIDE has come by the frame; an empty one never comes
-abbrev pub is_past : Option ℕ → ℕ → Bool
-is_past None frame = false
-is_past (Some hide) frame = nat_le hide frame
-
 -- what the newest of the cues shows at a frame, until its HIDE
 abbrev pub shown_of_newest : ℕ → List Cue → Picture
 shown_of_newest frame [] = blank
-shown_of_newest frame (cue ∷ earlier) = if is_past cue.hide frame then blank else shown_from cue.kind cue earlier
+shown_of_newest frame (cue ∷ earlier) = if hide_is cue.hide (λ hide. nat_le hide frame) then blank else shown_from cue.kind cue earlier
 
 -- the cues whose SHOW has come, where the cues stand newest first
 abbrev pub shown_by : ℕ → List Cue → List Cue

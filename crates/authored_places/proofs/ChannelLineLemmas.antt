@@ -8,7 +8,8 @@ use Rattle.cue_types.specs.Line21Cues.{base_row, continues}
 use Rattle.cue_types.specs.declared.cue.Cue.{Cue}
 use Rattle.cue_types.specs.declared.cue.Kind.{Kind}
 use Rattle.cue_types.specs.declared.cue.Kind.TheVariants as kind
-use Rattle.authored_grids.specs.AuthoredGrid.{authored_grid, blank, cells_of, cells_of_cue, chain_of, chain_rows, is_past, shown_from, shown_of_newest}
+use Rattle.authored_grids.specs.AuthoredGrid.{authored_grid, blank, cells_of, cells_of_cue, chain_of, chain_rows, shown_from, shown_of_newest}
+use Rattle.cue_types.specs.Hide.{hide_is}
 use Rattle.authored_places.specs.ChannelCursors.{StandsAtFrame}
 use Rattle.authored_places.specs.ChannelNewest.{IsLastOn, IsNewest, newest}
 use Rattle.authored_places.specs.ChannelTimes.{AreCuesTimed}
@@ -24,13 +25,13 @@ authored_is cues frame cursor timed stands = ap (shown_of_newest frame) (shown_i
 pub nothing_yet : (frame : ℕ) (cues : List Cue) → cues ≡ [] → shown_of_newest frame cues ≡ blank
 nothing_yet frame cues none = ap (shown_of_newest frame) none
 
-pub is_hidden : (frame : ℕ) (cues : List Cue) (cue : Cue) (earlier : List Cue) → cues ≡ cue ∷ earlier → is_past cue.hide frame ≡ true
+pub is_hidden : (frame : ℕ) (cues : List Cue) (cue : Cue) (earlier : List Cue) → cues ≡ cue ∷ earlier → hide_is cue.hide (λ hide. nat_le hide frame) ≡ true
     → shown_of_newest frame cues ≡ blank
 is_hidden frame cues cue earlier are past =
     ap (shown_of_newest frame) are ∙ ap (λ b. if b then blank else shown_from cue.kind cue earlier) past
 
 -- else what that cue shows
-pub is_up : (frame : ℕ) (cues : List Cue) (cue : Cue) (earlier : List Cue) → cues ≡ cue ∷ earlier → is_past cue.hide frame ≡ false
+pub is_up : (frame : ℕ) (cues : List Cue) (cue : Cue) (earlier : List Cue) → cues ≡ cue ∷ earlier → hide_is cue.hide (λ hide. nat_le hide frame) ≡ false
     → shown_of_newest frame cues ≡ shown_from cue.kind cue earlier
 is_up frame cues cue earlier are up =
     ap (shown_of_newest frame) are ∙ ap (λ b. if b then blank else shown_from cue.kind cue earlier) up
@@ -100,8 +101,8 @@ none_last channel cues count last is none = subst (IsLastOn channel cues count) 
 -- the newest cue whose SHOW has come, and what it shows at a frame
 pub record Up (cues : List Cue) (frame : ℕ) (cursor : ChannelCursor) (number : ℕ) (cue : Cue) : Type 0 where
   pub is : slice_get cues number ≡ Some cue
-  pub hidden : is_past cue.hide frame ≡ true → authored_grid cursor.channel cues frame ≡ blank
-  pub shown : is_past cue.hide frame ≡ false
+  pub hidden : hide_is cue.hide (λ hide. nat_le hide frame) ≡ true → authored_grid cursor.channel cues frame ≡ blank
+  pub shown : hide_is cue.hide (λ hide. nat_le hide frame) ≡ false
       → authored_grid cursor.channel cues frame ≡ shown_from cue.kind cue (newest cursor.channel cues number)
 
 pub up_of : (cues : List Cue) (frame : ℕ) (cursor : ChannelCursor) (number : ℕ) (cue : Cue) → AreCuesTimed 0 (cues_on cursor.channel cues)

@@ -1,5 +1,6 @@
-ghost use Rattle.std.specs.Prelude.{◌≡◌, ◌<◌, ◌≤◌, ◌+◌, false, true, ℕ, length};
-ghost use Rattle.authored_grids.specs.AuthoredGrid.{IsSettled, authored_grid, is_past, shown_of_newest};
+ghost use Rattle.std.specs.Prelude.{◌≡◌, ◌<◌, ◌≤◌, ◌+◌, false, true, nat_le, ℕ, length};
+ghost use Rattle.authored_grids.specs.AuthoredGrid.{IsSettled, authored_grid, shown_of_newest};
+ghost use Rattle.cue_types.specs.Hide.{hide_is};
 ghost use Rattle.authored_places.specs.ChannelCursors.{HasPassedShown, StandsAtFrame, cursor_channel};
 ghost use Rattle.authored_places.specs.ChannelLines.{line_cell};
 ghost use Rattle.authored_places.specs.ChannelNewest.{newest};
@@ -139,7 +140,7 @@ impl ChannelCursor {
 
 /// The HIDE has come by the frame; an empty one never comes.
 fn is_past(hide: Option<u32>, frame: u32) -> bool
-    ensures { result ≡ is_past hide frame }
+    ensures { result ≡ hide_is hide (λ hide. nat_le hide frame) }
 {
     matches!(hide, Some(hide) if hide <= frame)
 }

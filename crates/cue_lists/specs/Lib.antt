@@ -14,6 +14,7 @@ pub use Rattle.cue_rules.specs.Rules
 pub use Rattle.cue_types.specs.Cells
 pub use Rattle.cue_types.specs.Channels
 pub use Rattle.cue_types.specs.Cues
+pub use Rattle.cue_types.specs.Hide
 pub use Rattle.cue_types.specs.Lane
 pub use Rattle.cue_types.specs.Line21Cues
 pub use Rattle.cue_types.specs.Listing

@@ -8,7 +8,7 @@ use Rattle.cue_types.specs.Channels.{is_on}
 use Rattle.cue_types.specs.Line21Cues.{base_row, continues, same_roll}
 use Rattle.cue_types.specs.Listing.{Listing}
 use Rattle.cue_rules.specs.Rules.{fault_of}
-use Rattle.cue_rules.specs.Rules.Alternatives.{hide_is}
+use Rattle.cue_types.specs.Hide.{hide_is}
 use Rattle.cue_rules.specs.Rules.Clash.{clash, shows_as_it_hides}
 use Rattle.cue_rules.specs.Rules.Delay.{delay_of}
 use Rattle.cue_rules.specs.Rules.DelayCovers.{delay_covers, delays_cross}

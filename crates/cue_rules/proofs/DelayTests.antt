@@ -4,7 +4,7 @@ use Rattle.std.specs.Prelude.{nat_lt, IfSome}
 use Rattle.std.specs.List.{AllByRecursion, list_any}
 use Rattle.std.proofs.lemmas.Bool.Decides.{leb_tells, eqb_tells}
 use Rattle.cc_base.specs.declared.rate.Rate.{Rate}
-use Rattle.cue_rules.specs.Rules.Alternatives.{hide_is}
+use Rattle.cue_types.specs.Hide.{hide_is}
 use Rattle.cue_rules.specs.Rules.Delay.{delay_start, event_frames}
 use Rattle.cue_rules.specs.Rules.DelayCovers.{delay_has, delays_cross, same_service, same_start}
 use Rattle.cue_rules.specs.Rules.Sentences.{IsUndisturbed, KeepsClear}

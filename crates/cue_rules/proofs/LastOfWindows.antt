@@ -20,7 +20,8 @@ use Rattle.cue_types.specs.declared.cue.Kind.{Kind}
 use Rattle.cue_types.specs.declared.cue.Kind.TheVariants as kind
 use Rattle.cue_types.specs.declared.cue.WinCue.{WinCue}
 use Rattle.cue_rules.specs.Rules.{AreFaultless}
-use Rattle.cue_rules.specs.Rules.Alternatives.{first_broken, hide_is}
+use Rattle.cue_types.specs.Hide.{hide_is}
+use Rattle.cue_rules.specs.Rules.Alternatives.{first_broken}
 use Rattle.cue_rules.specs.Rules.Delay.{delay_of, delay_start, event_frames}
 use Rattle.cue_rules.specs.Rules.DelayCovers.{delays_cross, same_service}
 use Rattle.cue_rules.specs.Rules.Former.{former_cue, nearest_number}

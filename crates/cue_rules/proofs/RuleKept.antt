@@ -5,7 +5,8 @@ use Rattle.std.proofs.lemmas.Bool.Decides.{leb_tells}
 use Rattle.cc_base.specs.declared.why.Why.{Why}
 use Rattle.cue_types.specs.Listing.{Listing}
 use Rattle.cue_rules.specs.Rules.{verdicts, fault_or, fault_of}
-use Rattle.cue_rules.specs.Rules.Alternatives.{Alternative, with_former, first_broken, hide_is}
+use Rattle.cue_types.specs.Hide.{hide_is}
+use Rattle.cue_rules.specs.Rules.Alternatives.{Alternative, with_former, first_broken}
 use Rattle.cue_types.specs.Cells.{have_shared_cell}
 use Rattle.cue_rules.specs.Rules.Clash.{clash, shows_as_it_hides}
 use Rattle.cue_rules.specs.Rules.DelayCovers.{delay_covers}

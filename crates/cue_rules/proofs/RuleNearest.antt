@@ -6,7 +6,7 @@ use Rattle.cc_base.specs.declared.rate.Rate.{Rate}
 use Rattle.cue_types.specs.declared.cue.Cue.{Cue}
 use Rattle.cue_types.specs.declared.cue.Kind.{Kind}
 use Rattle.cue_types.specs.declared.cue.Kind.TheVariants as kind
-use Rattle.cue_rules.specs.Rules.Alternatives.{hide_is}
+use Rattle.cue_types.specs.Hide.{hide_is}
 use Rattle.cue_rules.specs.Rules.Delay.{delay_start, event_frames}
 use Rattle.cue_rules.specs.Rules.DelayCovers.{delays_cross, delay_has, same_service, same_start}
 use Rattle.cue_types.specs.Lane.{is_win}

@@ -2,7 +2,8 @@
 use Rattle.std.proofs.Common.{◌≡◌, ◌≢◌, ℕ, ◌<◌, ◌≤◌, ◌==◌, ◌&&◌, Bool, true, false, Option, Some, None, suc, refl, arith, inl, inr}
 use Rattle.std.specs.Prelude.{nat_le, nat_lt, IfSome}
 use Rattle.std.proofs.lemmas.Bool.Decides.{leb_tells, eqb_tells}
-use Rattle.cue_rules.specs.Rules.Alternatives.{hide_is, with_former}
+use Rattle.cue_types.specs.Hide.{hide_is}
+use Rattle.cue_rules.specs.Rules.Alternatives.{with_former}
 use Rattle.cue_types.specs.declared.cue.Cue.{Cue}
 
 -- a number isn't at most a smaller one

@@ -9,7 +9,8 @@ use Rattle.cue_types.specs.Channels.{cues_of_service, is_of_service}
 use Rattle.cue_types.specs.Cues.{IsCueFormed, IsOfKind}
 use Rattle.cue_types.specs.Listing.{Listing, share_of}
 use Rattle.cue_rules.specs.Rules.{AreFaultless, fault_of}
-use Rattle.cue_rules.specs.Rules.Alternatives.{hide_is, with_earlier}
+use Rattle.cue_types.specs.Hide.{hide_is}
+use Rattle.cue_rules.specs.Rules.Alternatives.{with_earlier}
 use Rattle.cue_rules.specs.Rules.Clash.{clash, shows_as_it_hides}
 use Rattle.cue_rules.specs.Rules.Delay.{delay_of}
 use Rattle.cue_rules.specs.Rules.DelayCovers.{delay_covers, delays_cross, same_service}

@@ -2,6 +2,7 @@ pub mod Cells
 pub mod Channels
 pub mod Coloured
 pub mod Cues
+pub mod Hide
 pub mod Lane
 pub mod Line21Cues
 pub mod Listing

@@ -3,7 +3,8 @@ use Rattle.std.proofs.Common.{◌≡◌, ℕ, suc, ◌<◌, ◌≤◌, Bool, tru
 use Rattle.std.specs.Prelude.{⊤, if◌then◌else◌, IfSome}
 use Rattle.std.specs.List.{AllByRecursion}
 use Rattle.std.proofs.lemmas.Bool.Decides.{nat_tests}
-use Rattle.cue_lists.specs.AuthoredGrid.{is_past, shown_by, shown_from, shown_of_newest}
+use Rattle.cue_lists.specs.AuthoredGrid.{shown_by, shown_from, shown_of_newest}
+use Rattle.cue_lists.specs.Hide.{hide_is}
 use Rattle.cue_lists.specs.Line21Cues.{base_row}
 use Rattle.cue_lists.specs.declared.cue.Cue.{Cue}
 use Rattle.cue_lists.specs.declared.cue.Kind.{Kind}
@@ -90,7 +91,7 @@ not_hidden_yet None n g hidden = refl
 not_hidden_yet (Some h) n g hidden = let test : nat_lt h n ≡ false = grind (arith, nat_tests) in rw test refl
 
 -- what is shown at a frame was, until its HIDE, before the next frame
-shown_until : (hide : Option ℕ) (f : ℕ) (g : Grid) → (if is_past hide f then empty_grid else g) ≡ until hide (suc f) g
+shown_until : (hide : Option ℕ) (f : ℕ) (g : Grid) → (if hide_is hide (λ hide. nat_le hide f) then empty_grid else g) ≡ until hide (suc f) g
 shown_until None f g = refl
 shown_until (Some h) f g = go (nat_le h f) refl
   where

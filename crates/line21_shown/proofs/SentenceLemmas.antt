@@ -7,7 +7,8 @@ use Rattle.std.proofs.lemmas.List.{reverse-append, reverse-reverse}
 use Rattle.std.proofs.lemmas.List.Elements.{All-contains, All-contains_itself, All-from_recursion, All-head, All-tail, All-weaker, Contains-append_right, recursion_from_All}
 use Rattle.line21_codes.specs.declared.channels.Chan.{Chan}
 use Rattle.line21_slots.specs.Cadences.{slot_step}
-use Rattle.cue_lists.specs.AuthoredGrid.{Picture, authored_grid, blank, cell_in, cells_of, cells_of_cue, chain_of, is_past, chain_rows, shown_by, shown_from, shown_of_newest}
+use Rattle.cue_lists.specs.AuthoredGrid.{Picture, authored_grid, blank, cell_in, cells_of, cells_of_cue, chain_of, chain_rows, shown_by, shown_from, shown_of_newest}
+use Rattle.cue_lists.specs.Hide.{hide_is}
 use Rattle.cue_lists.specs.Cues.{IsCueFormed, IsOfKind}
 use Rattle.cue_lists.specs.Line21Cues.{base_row}
 use Rattle.cue_lists.specs.Listing.{IsFormed, Listing}
@@ -103,7 +104,7 @@ has_rows rows base chain room = record {
             absurd (none (base - row) cue (omega arith) is (omega arith))
 
 -- a HIDE that hasn't come
-not_past : (hide : Option ℕ) (f : ℕ) → IfSome hide (λ h. f < h) → is_past hide f ≡ false
+not_past : (hide : Option ℕ) (f : ℕ) → IfSome hide (λ h. f < h) → hide_is hide (λ hide. nat_le hide f) ≡ false
 not_past None f later = refl
 not_past (Some h) f later = grind (arith, nat_tests)
 
@@ -148,11 +149,11 @@ nothing_shows : (f : ℕ) (back : List Cue) → AllByRecursion (λ (cue : Cue). 
 nothing_shows f [] none = refl
 nothing_shows f (cue ∷ earlier) none = by_show (nat_le cue.show f) refl (nothing_shows f earlier none.1)
   where
-    by_hide : cue.show ≤ f → (hide : Option ℕ) → cue.hide ≡ hide → (if is_past cue.hide f then blank else shown_from cue.kind cue earlier) ≡ blank
+    by_hide : cue.show ≤ f → (hide : Option ℕ) → cue.hide ≡ hide → (if hide_is cue.hide (λ hide. nat_le hide f) then blank else shown_from cue.kind cue earlier) ≡ blank
     by_hide shown None is = absurd (none.0 (shown, subst (λ o. IfSome o (λ h. f < h)) (sym is) tt))
     by_hide shown (Some h) is = past (nat_le h f) refl
       where
-        past : (b : Bool) → nat_le h f ≡ b → (if is_past cue.hide f then blank else shown_from cue.kind cue earlier) ≡ blank
+        past : (b : Bool) → nat_le h f ≡ b → (if hide_is cue.hide (λ hide. nat_le hide f) then blank else shown_from cue.kind cue earlier) ≡ blank
         past true test = rw (is, test) refl
         past false test = let later : f < h = grind (arith, nat_tests) in absurd (none.0 (shown, subst (λ o. IfSome o (λ x. f < x)) (sym is) later))
 

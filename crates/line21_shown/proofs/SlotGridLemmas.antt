@@ -10,7 +10,8 @@ use Rattle.std.proofs.lemmas.List.{map-append}
 use Rattle.std.proofs.lemmas.List.Elements.{recursion_from_All}
 use Rattle.std.proofs.lemmas.Option.{slice_get-map}
 use Rattle.line21_codes.specs.declared.channels.Chan.{Chan}
-use Rattle.cue_lists.specs.AuthoredGrid.{IsSettled, IsSettledFor, Picture, authored_grid, blank, cells_of_cue, chain_of, chain_rows, is_past, shown_by, shown_from, shown_of_newest}
+use Rattle.cue_lists.specs.AuthoredGrid.{IsSettled, IsSettledFor, Picture, authored_grid, blank, cells_of_cue, chain_of, chain_rows, shown_by, shown_from, shown_of_newest}
+use Rattle.cue_lists.specs.Hide.{hide_is}
 use Rattle.cue_lists.specs.Channels.{cues_on}
 use Rattle.cue_lists.specs.Line21Cues.{base_row, continues}
 use Rattle.cue_lists.specs.Rules.Sentences.{IsOnSlots}
@@ -126,14 +127,14 @@ module _ (c : Cadence) (f k : ℕ) (come : slot_from c (suc f) ≡ suc k) where
           let two : nat_le s f ≡ true = grind (arith, nat_tests) in
           one ∙ sym two
 
-  same_past : (hide : Option ℕ) → IfSome hide (λ h. has_slot_in c h ≡ true) → is_past (option_map (slot_from c) hide) k ≡ is_past hide f
+  same_past : (hide : Option ℕ) → IfSome hide (λ h. has_slot_in c h ≡ true) → hide_is (option_map (slot_from c) hide) (λ hide. nat_le hide k) ≡ hide_is hide (λ hide. nat_le hide f)
   same_past None on = refl
   same_past (Some h) on = same_test h on
 
   same_newest : (cues : List Cue) → AllByRecursion (IsOnSlots c) cues → shown_of_newest k (cues_in_slots c cues) ≡ shown_of_newest f cues
   same_newest [] on = refl
   same_newest (cue ∷ earlier) on =
-      rw (same_past cue.hide on.0.hide) (ap (λ (g : Picture). if is_past cue.hide f then blank else g) (from_in_slots c cue.kind cue earlier))
+      rw (same_past cue.hide on.0.hide) (ap (λ (g : Picture). if hide_is cue.hide (λ hide. nat_le hide f) then blank else g) (from_in_slots c cue.kind cue earlier))
 
   same_shown : (cues : List Cue) → AllByRecursion (IsOnSlots c) cues → shown_of_newest k (shown_by k (cues_in_slots c cues)) ≡ shown_of_newest f (shown_by f cues)
   same_shown [] on = refl

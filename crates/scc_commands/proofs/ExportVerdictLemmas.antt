@@ -1,11 +1,9 @@
 -- The verdict of an export.
-use Rattle.std.proofs.Common.{◌≡◌, ◌∙◌, ◌+◌, ◌++◌, ◌⊎◌, ap, arith, inl, inr, length, refl, subst, suc, sym, ℕ, List, [], ◌∷◌, false, true}
+use Rattle.std.proofs.Common.{◌≡◌, ◌∙◌, ◌+◌, ◌++◌, ap, arith, length, subst, suc, sym, ℕ, List, [], ◌∷◌, false, true}
 use Rattle.cc_base.specs.declared.limit_of.LimitOf.TheVariants as limit
-use Rattle.cc_base.specs.declared.refusal.Refusal.{Refusal}
 use Rattle.cdp_packets.specs.Packets.{Frame}
 use Rattle.command_base.specs.Counts.{IsReadOf}
 use Rattle.command_base.specs.Ends.{Ends}
-use Rattle.command_base.specs.declared.status.Place.TheVariants.{Byte}
 use Rattle.command_base.specs.declared.status.Status.{Status}
 use Rattle.command_base.specs.declared.status.Status.TheVariants as status
 use Rattle.findings.specs.declared.finding.Kind45.{Kind45}

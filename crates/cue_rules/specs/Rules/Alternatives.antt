@@ -29,8 +29,3 @@ abbrev pub first_broken : List Alternative → Option Against
 first_broken [] = None
 first_broken (alternative ∷ rest) =
     if alternative.broken then Some alternative.against else first_broken rest
-
--- a test of a HIDE: an empty one doesn't pass
-abbrev pub hide_is : Option ℕ → (ℕ → Bool) → Bool
-hide_is None test = false
-hide_is (Some hide) test = test hide

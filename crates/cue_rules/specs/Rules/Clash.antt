@@ -3,7 +3,8 @@
 -- field's next slot, which is `step` frames on: one, and two at 59.94 and 60 frames a second.
 use Rattle.std.specs.Prelude.{ℕ, ◌+◌, ◌*◌, ◌&&◌, nat_lt, Bool, List, [], ◌∷◌, Option}
 use Rattle.cue_types.specs.declared.cue.Cue.{Cue}
-use Rattle.cue_rules.specs.Rules.Alternatives.{Alternative, alone, with_former, hide_is}
+use Rattle.cue_types.specs.Hide.{hide_is}
+use Rattle.cue_rules.specs.Rules.Alternatives.{Alternative, alone, with_former}
 use Rattle.cue_types.specs.Lane.{is_pop}
 
 -- a pop-on cue's HIDE is below SHOW and two steps

@@ -2,7 +2,8 @@
 -- Rule OffSlot: a line 21 cue is shown and hidden in frames in which the field of its channel has a slot.
 use Rattle.std.specs.Prelude.{ℕ, not, Bool, false, List, [], ◌∷◌}
 use Rattle.cc_base.specs.declared.rate.Rate.{Rate}
-use Rattle.cue_rules.specs.Rules.Alternatives.{Alternative, alone, hide_is}
+use Rattle.cue_types.specs.Hide.{hide_is}
+use Rattle.cue_rules.specs.Rules.Alternatives.{Alternative, alone}
 use Rattle.cue_types.specs.declared.cue.Cue.{Cue}
 use Rattle.cue_types.specs.declared.cue.Kind.{Kind}
 use Rattle.cue_types.specs.declared.cue.Kind.TheVariants as kind

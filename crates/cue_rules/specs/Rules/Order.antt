@@ -4,7 +4,8 @@ use Rattle.std.specs.Prelude.{◌+◌, ◌&&◌, nat_lt, nat_le, Bool, List, [],
 use Rattle.cc_base.specs.declared.rate.Rate.{Rate}
 use Rattle.cc_base.specs.Rate.{delay_frames_of}
 use Rattle.cue_types.specs.declared.cue.Cue.{Cue}
-use Rattle.cue_rules.specs.Rules.Alternatives.{Alternative, alone, with_former, hide_is}
+use Rattle.cue_types.specs.Hide.{hide_is}
+use Rattle.cue_rules.specs.Rules.Alternatives.{Alternative, alone, with_former}
 use Rattle.cue_rules.specs.Rules.Delay.{delay_of}
 use Rattle.cue_types.specs.Lane.{is_line21, is_win}
 

@@ -2,7 +2,8 @@
 -- Rule Overlap: no two runs of a cue write one cell, and no two cues of a channel are shown at once.
 use Rattle.std.specs.Prelude.{◌&&◌, nat_lt, Bool, List, [], ◌∷◌, Option}
 use Rattle.cue_types.specs.declared.cue.Cue.{Cue}
-use Rattle.cue_rules.specs.Rules.Alternatives.{Alternative, alone, with_former, hide_is}
+use Rattle.cue_types.specs.Hide.{hide_is}
+use Rattle.cue_rules.specs.Rules.Alternatives.{Alternative, alone, with_former}
 use Rattle.cue_types.specs.Cells.{have_shared_cell}
 use Rattle.cue_types.specs.Lane.{is_line21}
 

@@ -2,7 +2,8 @@
 -- Rule PastEnd: a cue has ended before the last frame has, its last event with the repeat counted.
 use Rattle.std.specs.Prelude.{ℕ, ◌+◌, ◌&&◌, nat_lt, nat_le, is_none, Bool, List, [], ◌∷◌}
 use Rattle.cue_types.specs.declared.cue.Cue.{Cue}
-use Rattle.cue_rules.specs.Rules.Alternatives.{Alternative, alone, hide_is}
+use Rattle.cue_types.specs.Hide.{hide_is}
+use Rattle.cue_rules.specs.Rules.Alternatives.{Alternative, alone}
 use Rattle.cue_types.specs.Lane.{is_line21, is_win}
 
 -- on a channel, HIDE, a step from slot to slot and 1 together are above FRAMES

@@ -3,7 +3,8 @@
 -- it continues it; and a cue without a HIDE is only ever continued.
 use Rattle.std.specs.Prelude.{◌&&◌, ◌||◌, not, nat_lt, is_none, Bool, List, [], ◌∷◌, Option}
 use Rattle.cue_types.specs.declared.cue.Cue.{Cue}
-use Rattle.cue_rules.specs.Rules.Alternatives.{Alternative, with_former, hide_is}
+use Rattle.cue_types.specs.Hide.{hide_is}
+use Rattle.cue_rules.specs.Rules.Alternatives.{Alternative, with_former}
 use Rattle.cue_types.specs.Line21Cues.{continues}
 use Rattle.cue_types.specs.Lane.{is_paint, is_roll}
 

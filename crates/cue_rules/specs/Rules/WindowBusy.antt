@@ -4,7 +4,8 @@ use Rattle.std.specs.Prelude.{◌==◌, ◌&&◌, nat_lt, Bool, false, List, [],
 use Rattle.cue_types.specs.declared.cue.Cue.{Cue}
 use Rattle.cue_types.specs.declared.cue.Kind.{Kind}
 use Rattle.cue_types.specs.declared.cue.Kind.TheVariants as kind
-use Rattle.cue_rules.specs.Rules.Alternatives.{Alternative, with_earlier, hide_is}
+use Rattle.cue_types.specs.Hide.{hide_is}
+use Rattle.cue_rules.specs.Rules.Alternatives.{Alternative, with_earlier}
 use Rattle.cue_rules.specs.Rules.Former.{nearest_number}
 
 -- two window cues of one service and ID
