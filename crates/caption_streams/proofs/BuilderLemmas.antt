@@ -1,5 +1,5 @@
 -- A builder goes to its next frame.
-use Rattle.std.proofs.Common.{◌≡◌, ◌∙◌, ◌+◌, ◌<◌, ap, suc, sym, subst, ℕ, List, add-one, arith}
+use Rattle.std.proofs.Common.{◌≡◌, ◌∙◌, ◌+◌, ap, sym, subst, ℕ, List, add-one, arith}
 use Rattle.cc_base.specs.declared.rate.Rate.{Rate}
 use Rattle.cue_lists.specs.Listing.{Listing}
 use Rattle.frame_carrier.specs.Carrying.{IsAt, channel_packet, frame_bytes, packet_count, packets_before}
@@ -9,7 +9,7 @@ use Rattle.frame_scheduler.specs.Frames.{GivesFrom, frames_left}
 use Rattle.frame_scheduler.specs.Planned.{Placement, columns_of}
 use Rattle.frame_scheduler.specs.declared.frames.FrameBytes.{FrameBytes}
 use Rattle.frame_scheduler.specs.declared.frames.Plan.{Plan}
-use Rattle.caption_streams.specs.Builders.{HasGiven, IsBuilding, packet_of}
+use Rattle.caption_streams.specs.Builders.{HasGiven, IsBuilding}
 use Rattle.caption_streams.specs.declared.building.Building.{Building}
 
 pub stepped : (list : Listing) (placed : Placement) (frame : ℕ) (b : Building) (plan : Plan) (carrier : Carrier) (pairs : FrameBytes) (words : List ℕ)

@@ -1,5 +1,5 @@
 -- What receivers of both kinds make of the bytes that they are fed.
-use Rattle.std.proofs.Common.{◌≡◌, ◌-◌, ap, arith, length, refl, ℕ, List, [], ◌∷◌}
+use Rattle.std.proofs.Common.{◌≡◌, ap, arith, refl, ℕ, List, [], ◌∷◌}
 use Rattle.std.proofs.Math.Path.{fun_ext}
 use Rattle.std.specs.Prelude.{Result, Ok, Err}
 use Rattle.cc_base.specs.declared.refusal.Refusal.{Refusal}

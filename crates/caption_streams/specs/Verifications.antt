@@ -3,9 +3,7 @@
 use Rattle.std.specs.Prelude.{◌≡◌, ◌≤◌, ℕ, List, [], ◌++◌, take, Option, None, Some, Result, Ok, Err}
 use Rattle.cc_base.specs.declared.refusal.Refusal.{Refusal}
 use Rattle.cc_receiver.specs.declared.receiver.Fed.{Fed}
-use Rattle.cc_verifier.specs.Findings.{AreClean}
 use Rattle.cc_verifier.specs.Verifiers.{FeedsOn, HasVerified, JudgesFile, finding_of, list_of, verified_frames}
-use Rattle.cc_verifier.specs.declared.verifier.Verdict.{Verdict}
 use Rattle.cc_verifier.specs.declared.verifier.Verdict.TheVariants as verdict
 use Rattle.cc_verifier.specs.declared.verifier.Verifier.{Verifier}
 use Rattle.command_base.specs.declared.status.Place.TheVariants.{Byte}

@@ -1,6 +1,6 @@
 -- Between crates: the program's answer stands on none of these definitions.
 -- Verifiers, as C holds them.
-use Rattle.std.specs.Prelude.{◌≡◌, ◌≢◌, ◌⊎◌, ℕ, List, Option, Some, None, Result, Ok, Err, Bool, true, false, is_some, if◌then◌else◌}
+use Rattle.std.specs.Prelude.{◌≡◌, ◌⊎◌, ℕ, List, Option, Some, None, Result, Ok, Bool, true, is_some}
 use Rattle.caption_streams.specs.Verifications.{AnswersVerified, BeginsVerifying, IsVerdictOn, finding_in, verifier_of}
 use Rattle.caption_streams.specs.declared.fault.FeedFault.{FeedFault}
 use Rattle.caption_streams.specs.declared.verifying.Verifying.{Verifying}

@@ -1,5 +1,5 @@
 -- Offences of what goes on from a record that was judged.
-use Rattle.std.proofs.Common.{◌≡◌, true, List, [], ◌∷◌, Option, Some, None, Result, Ok, Err, refl}
+use Rattle.std.proofs.Common.{◌≡◌, true, List, [], ◌∷◌, Result, Ok, Err, refl}
 use Rattle.cue_form.specs.Answers.{AnswersOffence}
 use Rattle.cue_form.specs.Judgements.{Judgement, first_offence}
 use Rattle.cue_form.specs.Reading.{judged_value, on_ok}

@@ -1,5 +1,5 @@
 -- Records that were read: what they have, and that they are the records that spell it.
-use Rattle.std.proofs.Common.{◌≡◌, ◌+◌, ◌-◌, ◌<◌, ◌≤◌, ◌==◌, ◌^◌, ◌&&◌, Bool, true, false, not, nat_le, List, [], ◌∷◌, drop, length, chars, ℕ, zero, suc, codes, All, IsSome, Option, Some, None, Ok, refl, sym, ap, subst, ◌∙◌, arith, eqb-true, leb-true}
+use Rattle.std.proofs.Common.{◌≡◌, ◌+◌, ◌-◌, ◌<◌, ◌≤◌, ◌==◌, ◌^◌, ◌&&◌, Bool, true, false, not, nat_le, List, [], ◌∷◌, length, chars, ℕ, zero, suc, codes, All, IsSome, Option, Some, None, Ok, refl, sym, ap, subst, ◌∙◌, arith, eqb-true, leb-true}
 use Rattle.std.specs.Prelude.{decimal, is_some, option_map, unwrap_or}
 use Rattle.line21_codes.specs.Spellings.{spelling_of}
 use Rattle.dtvcc_codes.specs.CharacterSpellings.{dtvcc_spelling as dtv_spelling_of}
@@ -40,7 +40,7 @@ use Rattle.cue_form.specs.declared.record_kind.RecordKind.{RecordKind}
 use Rattle.cue_form.specs.declared.record_kind.RecordKind.TheVariants as record_kind
 use Rattle.cue_form.proofs.Goodness.{good_of}
 use Rattle.cue_form.proofs.NumberFacts.{frame_passed}
-use Rattle.record_files.proofs.FieldFacts.{field_is, fields_listed, listed}
+use Rattle.record_files.proofs.FieldFacts.{field_is, fields_listed}
 use Rattle.record_files.proofs.NumberFacts.{number_good, number_passed, within_passed}
 use Rattle.record_files.proofs.Passing.{both_of, not_of, on_test, with_value}
 use Rattle.cue_form.proofs.TextFacts.{TextPassed, text_passed}

@@ -1,7 +1,7 @@
 -- Believed: the program's answer stands on these definitions.
 -- The form of cue lists, in words that both the reading and the first fault speak in: the kinds of records, where each
 -- may stand, and what a field must be in the light of the records before it.
-use Rattle.std.specs.Prelude.{ℕ, ◌+◌, ◌-◌, ◌==◌, Bool, true, false, not, ◌&&◌, nat_lt, nat_le, if◌then◌else◌, List, [], ◌∷◌, length, codes, Option, Some, None, option_map, is_some, is_none}
+use Rattle.std.specs.Prelude.{ℕ, ◌-◌, ◌==◌, Bool, true, false, not, ◌&&◌, nat_le, if◌then◌else◌, List, [], ◌∷◌, length, codes, Option, Some, None, option_map, is_some, is_none}
 use Rattle.line21_codes.specs.Spellings.{spelling_of}
 use Rattle.dtvcc_codes.specs.CharacterSpellings.{dtvcc_spelling as dtv_spelling_of}
 use Rattle.cue_form.specs.Begun.{Begun, awaits_run, no_runs}

@@ -1,12 +1,11 @@
 -- Believed: the program's answer stands on these definitions.
 -- What is judged of each record, in the order in which it is judged: what may stand there, then the number of its fields,
 -- then its fields from the left. Each judgement has the offence that comes where it isn't good.
-use Rattle.std.specs.Prelude.{ℕ, ◌+◌, ◌-◌, ◌==◌, Bool, false, not, ◌&&◌, nat_lt, nat_le, if◌then◌else◌, List, [], ◌∷◌, length, chars, Option, Some, None, is_some}
+use Rattle.std.specs.Prelude.{ℕ, ◌+◌, ◌-◌, ◌==◌, Bool, false, not, ◌&&◌, nat_lt, nat_le, List, [], ◌∷◌, length, chars, Option, Some, None, is_some}
 use Rattle.std.specs.List.{list_any, list_all}
 use Rattle.std.specs.Str.{is_utf8}
 use Rattle.cc_base.specs.declared.limit_of.LimitOf.{LimitOf}
 use Rattle.cc_base.specs.declared.limit_of.LimitOf.TheVariants as limit
-use Rattle.cc_base.specs.declared.why.Why.{Why}
 use Rattle.cc_base.specs.declared.why.Why.TheVariants as why
 use Rattle.cc_base.specs.Options.{passes}
 use Rattle.cue_form.specs.Begun.{Begun, cues_of}
@@ -21,7 +20,6 @@ use Rattle.cue_types.specs.declared.cue.Kind.{Kind}
 use Rattle.cue_types.specs.declared.cue.Run.{Run}
 use Rattle.cue_types.specs.declared.head.Head.{Head}
 use Rattle.cue_types.specs.declared.list.Share.{Share}
-use Rattle.record_files.specs.declared.offence.Offence.{Offence}
 use Rattle.record_files.specs.declared.offence.Offence.TheVariants as offence
 use Rattle.cue_form.specs.declared.record_kind.RecordKind.{RecordKind}
 use Rattle.cue_form.specs.declared.record_kind.RecordKind.TheVariants as record_kind

@@ -11,9 +11,9 @@ use Rattle.dtvcc_codes.specs.declared.pens.PenColors.{PenColors}
 use Rattle.dtvcc_codes.specs.declared.pens.Rgb.{Rgb}
 use Rattle.dtvcc_codes.specs.declared.windows.WinAttr.{WinAttr}
 use Rattle.cue_form.specs.Begun.{Begun, nothing, cues_of, with_cue, cue_with_run, cue_with_attributes, cue_with_colours, awaits_run}
-use Rattle.cue_form.specs.Fields.{channel_field, fill_field, frame_field, named, number_field, number_within, rate_field, rgb_field}
+use Rattle.cue_form.specs.Fields.{channel_field, fill_field, frame_field, named, number_field, rate_field, rgb_field}
 use Rattle.cue_form.specs.Form.{cue_columns, first_row, frame_or_none_field, last_row, record_kind_of, run_pen_field, version_words}
-use Rattle.cue_form.specs.Judgements.{Judgement, attribute_judgements, colour_judgements, first_offence, head_judgements, rolled_judgements, room_at, room_judgement, run_judgements, share_judgements, shown_judgements, standing_judgement, window_judgements}
+use Rattle.cue_form.specs.Judgements.{attribute_judgements, colour_judgements, head_judgements, rolled_judgements, room_at, room_judgement, run_judgements, share_judgements, shown_judgements, standing_judgement, window_judgements}
 pub use Rattle.record_files.specs.Judgements.{judged_value, number, on_ok, unless}
 use Rattle.record_files.specs.Records.{Record, field, records_of}
 use Rattle.cue_types.specs.Listing.{Listing}

@@ -4,7 +4,6 @@
 use Rattle.std.specs.Prelude.{◌≡◌, ℕ, Bool, if◌then◌else◌, List, [], ◌∷◌, ◌++◌, map, flat_map, codes, decimal, encode_utf8_all, Option, Some, None}
 use Rattle.cc_base.specs.declared.rate.Rate.{Rate}
 use Rattle.cc_base.specs.declared.rate.Rate.TheVariants as rate
-use Rattle.line21_codes.specs.declared.channels.Chan.{Chan}
 use Rattle.line21_codes.specs.Channels.{channel_name}
 use Rattle.line21_codes.specs.PenWords.{colour_word, italic_mark, underline_mark}
 use Rattle.dtvcc_codes.specs.declared.pens.Fill.{Fill}

@@ -1,5 +1,5 @@
 -- The list of a load is accepted: it is read as a programme, or memory ran out, and what came of the programme is the summary.
-use Rattle.std.proofs.Common.{◌≡◌, ◌≢◌, ◌∙◌, ℕ, ◌≤◌, List, [], length, Option, Some, Err, ap, refl, sym, subst, arith}
+use Rattle.std.proofs.Common.{◌≡◌, ◌≢◌, ℕ, ◌≤◌, List, [], length, Option, Some, Err, refl, sym, subst, arith}
 use Rattle.command_base.specs.WholeInput.{ReadsInput}
 use Rattle.command_base.specs.declared.status.Status.{Status}
 use Rattle.command_base.specs.declared.status.Status.TheVariants as status
@@ -21,7 +21,6 @@ use Rattle.load_lists.proofs.LoadRoomLemmas.{list_placed}
 use Rattle.load_commands.specs.LoadOutput.{IsSummaryOf, change_count}
 use Rattle.load_commands.specs.Receiving.{AreAllWhole, AreWhole, HasReceivedColumns, IsSendable}
 use Rattle.load_commands.specs.declared.reception.Reception.{Reception}
-use Rattle.load_commands.specs.declared.summary.Summary.{Summary}
 use Rattle.load_commands.proofs.WholeLemmas.{frames_whole}
 
 -- a programme can be sent

@@ -1,19 +1,17 @@
 -- The words of what was read are bytes.
-use Rattle.std.proofs.Common.{◌≡◌, ℕ, zero, suc, ◌+◌, ◌*◌, ◌/◌, ◌%◌, ◌<◌, ◌==◌, nat_lt, inl, inr, Bool, true, false, cond, List, [], ◌∷◌, ◌++◌, sum, count_ones, Option, Some, None, Ok, refl, ap, sym, ◌∙◌, subst, arith}
+use Rattle.std.proofs.Common.{◌≡◌, ℕ, suc, ◌+◌, ◌*◌, ◌/◌, ◌%◌, ◌<◌, ◌==◌, nat_lt, inl, inr, Bool, true, false, cond, List, [], ◌∷◌, ◌++◌, sum, count_ones, Option, Some, None, Ok, refl, ap, sym, ◌∙◌, subst, arith}
 use Rattle.std.specs.List.{concat}
 use Rattle.std.proofs.lemmas.Bool.{cases_Bool}
-use Rattle.std.proofs.lemmas.Grind.{common_steps}
-use Rattle.std.proofs.lemmas.List.Elements.{All-append, All-cons, All-nil}
+use Rattle.std.proofs.lemmas.List.Elements.{All-append}
 use Rattle.anc_words.specs.Words.{AreWords}
 use Rattle.anc_words.specs.Writing.{checksum_word, eight_bit_word, summed_words, word_bytes}
 use Rattle.hex_digits.specs.HexDigits.{hex_value}
 use Rattle.mcc_payloads.proofs.FirstLemmas.{Stands, at_digit, at_item}
-use Rattle.mcc_payloads.proofs.LetterLemmas.{IsKnown, blank, captions, fills, first, identifier, known, long, second, zeros}
+use Rattle.mcc_payloads.proofs.LetterLemmas.{known, zeros}
 use Rattle.mcc_payloads.proofs.StepLemmas.{joined_is}
 use Rattle.mcc_payloads.proofs.WordLemmas.{front_bytes}
 use Rattle.mcc_payloads.proofs.WrittenLemmas.{AreBytes}
-use Rattle.mcc_payloads.specs.Items.{AreItems, IsItem}
-use Rattle.mcc_payloads.specs.Letters.{fillers, letter_bytes}
+use Rattle.mcc_payloads.specs.Letters.{letter_bytes}
 use Rattle.mcc_payloads.specs.Payloads.{Payload, checksum_byte, payload_bytes}
 use Rattle.mcc_payloads.specs.PayloadWords.{payload_words}
 use Rattle.mcc_payloads.specs.Reading.{Open, brought, brought_by, is_whole, item_bytes, joined}

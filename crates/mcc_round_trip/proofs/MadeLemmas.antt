@@ -1,5 +1,5 @@
 -- The words of packets of captions at consecutive frames are those that came.
-use Rattle.std.proofs.Common.{◌≡◌, ℕ, ◌+◌, ◌-◌, ◌*◌, ◌%◌, ◌<◌, inl, inr, true, List, [], ◌∷◌, ◌++◌, length, Option, Some, None, refl, ap, sym, ◌∙◌, subst, arith}
+use Rattle.std.proofs.Common.{◌≡◌, ℕ, ◌+◌, ◌-◌, inl, inr, true, List, ◌++◌, length, Option, Some, None, refl, ap, sym, ◌∙◌, subst, arith}
 use Rattle.anc_words.specs.Packets.{AncillaryPacket}
 use Rattle.anc_words.specs.Writing.{packet_bytes}
 use Rattle.cdp_packets.specs.Packets.{Frame, IsCdp}

@@ -1,5 +1,5 @@
 -- What `import` and `export` answer where no count of faults rose, and where one did.
-use Rattle.std.proofs.Common.{◌≡◌, ◌⊎◌, ◌<◌, ap, arith, inl, inr, refl, subst, ℕ, List, Ok, Result}
+use Rattle.std.proofs.Common.{◌≡◌, ◌⊎◌, ◌<◌, ap, arith, refl, subst, ℕ, List, Ok, Result}
 use Rattle.command_base.proofs.MakesLemmas.{made_accepted, made_refused, made_told}
 use Rattle.command_base.specs.Counts.{IsReadOf, TellsFaults}
 use Rattle.command_base.specs.Ends.{Ends}

@@ -1,6 +1,6 @@
 -- Believed in part: the program's answer stands on some of these definitions.
 -- The form of SCC files byte by byte: where bytes read so far have ended, what a byte leads to there, and where a file may end.
-use Rattle.std.specs.Prelude.{ℕ, ◌+◌, ◌-◌, ◌*◌, ◌<◌, ◌==◌, ◌&&◌, ◌||◌, Bool, true, false, if◌then◌else◌, nat_le, List, [], ◌∷◌, codes, slice_index, slice_set, Option, Some, None, ⊤}
+use Rattle.std.specs.Prelude.{ℕ, ◌+◌, ◌*◌, ◌<◌, ◌==◌, ◌||◌, Bool, true, false, if◌then◌else◌, List, [], ◌∷◌, codes, slice_index, slice_set, Option, Some, None, ⊤}
 use Rattle.std.specs.Option.{option_map}
 use Rattle.cc_base.specs.declared.why.Why.{Why}
 use Rattle.cc_base.specs.declared.why.Why.TheVariants as why

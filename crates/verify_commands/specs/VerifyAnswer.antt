@@ -1,7 +1,7 @@
 -- Believed: the program's answer stands on these definitions.
 -- What `verify` answers: each status has its cause, and what was put, in one place. The side file's cue list is read to its end first;
 -- then the bytes of a words file are judged in order, up to the limit, and before more are taken.
-use Rattle.std.specs.Prelude.{◌≡◌, ◌<◌, ◌≤◌, ◌⊎◌, ℕ, List, [], length, IfSome, codes}
+use Rattle.std.specs.Prelude.{◌≡◌, ◌⊎◌, ℕ, List, [], length, IfSome, codes}
 use Rattle.std.specs.Io.KnownBytes.{Appends}
 use Rattle.cc_base.specs.Streams.{Puts, Rose, TakesWithin, whole_limit}
 use Rattle.cc_base.specs.declared.limit_of.LimitOf.TheVariants as limit

@@ -1,5 +1,5 @@
 -- What `decode` and `show` answer where a words file was read, or the reading of it stopped before.
-use Rattle.std.proofs.Common.{◌≡◌, ◌∙◌, ◌<◌, ◌≤◌, ◌++◌, ap, arith, inl, inr, length, refl, subst, sym, ℕ, List, [], Option, None}
+use Rattle.std.proofs.Common.{◌≡◌, ◌∙◌, ◌<◌, ◌≤◌, ◌++◌, ap, arith, inr, length, refl, subst, sym, ℕ, List, [], Option, None}
 use Rattle.cc_base.proofs.Puts.{puts_then}
 use Rattle.cc_base.specs.Streams.{Puts, Rose}
 use Rattle.cc_base.specs.declared.streams.Put.{Put}

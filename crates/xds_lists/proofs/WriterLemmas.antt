@@ -1,5 +1,5 @@
 -- The writer of a list.
-use Rattle.std.proofs.Common.{◌≡◌, ◌∙◌, ℕ, ◌+◌, ◌-◌, ◌<◌, ◌≤◌, nat_le, List, [], ◌∷◌, ◌++◌, length, drop, refl, ap, arith, length-drop}
+use Rattle.std.proofs.Common.{◌≡◌, ℕ, ◌<◌, nat_le, List, [], ◌∷◌, length, drop, refl, ap, arith, length-drop}
 use Rattle.xds_lists.specs.Writer.{is_due}
 use Rattle.xds_packets.specs.Sending.{Listed}
 

@@ -1,4 +1,4 @@
-use Rattle.std.proofs.Common.{◌≡◌, ◌∙◌, ◌≤◌, ◌<◌, List, [], ◌∷◌, ap, arith, length, map, string_bytes, sym, ℕ}
+use Rattle.std.proofs.Common.{◌∙◌, ◌≤◌, ◌<◌, List, [], ◌∷◌, ap, arith, length, map, string_bytes, sym, ℕ}
 use Rattle.std.proofs.lemmas.List.{length-map}
 use Rattle.ccsuite_cli.proofs.CommandLemmas.{long_words, two_words}
 use Rattle.ccsuite_cli.proofs.command.read_command.Goals as goal

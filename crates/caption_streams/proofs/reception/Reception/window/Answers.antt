@@ -1,5 +1,5 @@
 use Rattle.std.proofs.Common.{◌≡◌, subst, sym}
-use Rattle.std.specs.Prelude.{Option, None, MatchOption}
+use Rattle.std.specs.Prelude.{None, MatchOption}
 use Rattle.dtvcc_windows.specs.Objects.{window_of}
 use Rattle.caption_streams.specs.Receptions.{StandsBehind, service_behind}
 use Rattle.caption_streams.specs.declared.reception.Reception.{Reception}

@@ -1,4 +1,4 @@
-use Rattle.std.proofs.Common.{◌≡◌, ◌∙◌, Option, ap, ℕ}
+use Rattle.std.proofs.Common.{◌∙◌, Option, ap, ℕ}
 use Rattle.dtvcc_windows.specs.Showing.{ShownWindow}
 use Rattle.cc_receiver.proofs.grids.ReceiverGrids.is_used.Goals as goal
 

@@ -1,8 +1,6 @@
-use Rattle.std.proofs.Common.{◌≡◌, ◌∙◌, None, Some, Option, ap, ℕ, sym}
-use Rattle.std.specs.Prelude.{MatchOption}
+use Rattle.std.proofs.Common.{Option, ap, ℕ}
 use Rattle.dtvcc_windows.specs.Objects.{window_of}
-use Rattle.dtvcc_windows.specs.Showing.{ShownWindow, shown}
-use Rattle.dtvcc_windows.specs.Windows.{WindowState}
+use Rattle.dtvcc_windows.specs.Showing.{ShownWindow}
 use Rattle.cc_receiver.proofs.GridLemmas.{seen_of_window}
 use Rattle.cc_receiver.proofs.grids.ReceiverGrids.window.Goals as goal
 

@@ -1,10 +1,9 @@
 -- `closed` makes a pointer that owns nothing. Assumes `Logic`.
-use Rattle.std.proofs.Common.{◌≡◌, List, [], ◌∷◌, ◌++◌, refl, None, lit<}
+use Rattle.std.proofs.Common.{◌≡◌, [], ◌∷◌, refl, None, lit<}
 use mir.Syntax.{Fn}
 use mir.Val.{Val}
 use base.Logic.{SProp, emp}
 use base.Fml.{ftrue}
-use prog.Wp.{Env, WpFn}
 use contract.Monad.{fact, fact_i}
 use contract.Running.{tables}
 use types.Kit.{‵, raw, ◌⊛◌, ◌$◌, ◌∵◌, !, qed, by, move, drop, use0, split}
