@@ -17,6 +17,3 @@ pub use caption_packet::CaptionPacket;
 pub use packets::{CAPTION_DID, CAPTION_SDID, write_packet};
 pub use parts::WordPart;
 pub use reader::WordReader;
-
-#[cfg(test)]
-mod tests;

@@ -5,5 +5,3 @@ pub use crate::budget::{Budget, MOST_LOADS};
 
 mod budget;
 pub mod laws;
-#[cfg(test)]
-mod tests;

@@ -15,6 +15,4 @@ mod fault;
 mod receiving;
 mod reception;
 mod slice_source;
-#[cfg(test)]
-mod tests;
 mod verifying;

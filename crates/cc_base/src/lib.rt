@@ -32,7 +32,5 @@ mod refusal;
 mod resume;
 mod step;
 mod streams;
-#[cfg(test)]
-mod tests;
 mod whole;
 mod why;

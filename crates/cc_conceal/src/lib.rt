@@ -9,6 +9,3 @@ mod numbers;
 mod pairs;
 
 pub use concealer::Concealer;
-
-#[cfg(test)]
-mod tests;

@@ -8,6 +8,3 @@ mod triplet;
 pub use triplet::{
     FIELD_1, FIELD_2, FILLER, PACKET_DATA, PACKET_START, Triplet, read_triplet, write_triplet,
 };
-
-#[cfg(test)]
-mod tests;

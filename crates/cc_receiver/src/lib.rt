@@ -16,6 +16,3 @@ pub use findings::{Finding, Kind45, Which};
 pub use grids::{Grids, Touched};
 pub use receiver::{Ended, Fed, Receiver};
 pub use services::Served;
-
-#[cfg(test)]
-mod tests;

@@ -29,7 +29,5 @@ mod loose;
 mod pointer;
 mod receiver;
 mod state;
-#[cfg(test)]
-mod tests;
 mod told;
 mod verifier;

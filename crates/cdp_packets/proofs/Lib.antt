@@ -6,6 +6,5 @@ pub mod PlaceLemmas
 pub mod ReadLemmas
 pub mod SectionLemmas
 pub mod SoundLemmas
-mod TestSections
 pub mod WholeLemmas
 pub mod StandingLemmas

@@ -18,6 +18,3 @@ pub use parts::CdpPart;
 pub use reader::CdpReader;
 pub use sections::{CC_DATA, TIME_CODE, cc_section, section_len};
 pub use whole_packet::{WholePacket, read_summed_packet, split_section, triplet_bytes};
-
-#[cfg(test)]
-mod tests;

@@ -11,6 +11,3 @@ mod writer;
 pub use parts::PacketPart;
 pub use reader::PacketReader;
 pub use writer::PacketWriter;
-
-#[cfg(test)]
-mod tests;

@@ -5,6 +5,4 @@ pub use crate::status::{Place, Status};
 pub use crate::whole_input::read_input;
 
 mod status;
-#[cfg(test)]
-mod tests;
 mod whole_input;

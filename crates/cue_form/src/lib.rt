@@ -12,6 +12,4 @@ pub mod laws;
 mod reading;
 mod record_kind;
 mod records;
-#[cfg(test)]
-mod tests;
 mod texts;

@@ -12,5 +12,3 @@ mod cues;
 pub mod laws;
 mod lines;
 mod pairs;
-#[cfg(test)]
-mod tests;

@@ -10,5 +10,3 @@ pub use cue_types::{
 };
 
 pub mod laws;
-#[cfg(test)]
-mod tests;

@@ -6,5 +6,3 @@ pub use crate::printing::print;
 pub mod laws;
 mod printing;
 mod spelling;
-#[cfg(test)]
-mod tests;

@@ -15,6 +15,4 @@ mod cue;
 mod frame_events;
 mod latest;
 mod packed;
-#[cfg(test)]
-mod tests;
 mod unit;

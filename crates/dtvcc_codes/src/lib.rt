@@ -20,6 +20,3 @@ pub use pens::{Fill, PenAttr, PenColors, Rgb};
 pub use reader::CommandReader;
 pub use windows::{Definition, WinAttr};
 pub use writing::write_command;
-
-#[cfg(test)]
-mod tests;

@@ -12,6 +12,3 @@ mod service;
 pub use clock::Clock;
 pub use cores::Core;
 pub use service::Service;
-
-#[cfg(test)]
-mod tests;

@@ -7,6 +7,3 @@ mod passing;
 mod services;
 
 pub use services::{SERVICES, Services};
-
-#[cfg(test)]
-mod tests;

@@ -9,6 +9,3 @@ mod window;
 pub use cells::DCell;
 pub use styles::{pen_style, window_style};
 pub use window::Window;
-
-#[cfg(test)]
-mod tests;

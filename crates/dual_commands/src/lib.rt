@@ -7,5 +7,3 @@ pub use crate::dual_of::DualOf;
 mod dual;
 mod dual_of;
 pub mod laws;
-#[cfg(test)]
-mod tests;

@@ -18,5 +18,3 @@ mod other_list;
 mod placed;
 mod places;
 mod plan;
-#[cfg(test)]
-mod tests;

@@ -7,5 +7,3 @@ pub use crate::cue_event::{CueEvent, cue_events};
 mod clash;
 mod cue_event;
 pub mod laws;
-#[cfg(test)]
-mod tests;

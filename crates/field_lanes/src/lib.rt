@@ -14,5 +14,3 @@ mod front;
 pub mod laws;
 pub mod placed;
 pub mod placed_unit;
-#[cfg(test)]
-mod tests;

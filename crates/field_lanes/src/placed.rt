@@ -15,9 +15,6 @@ use placements::PlanFault;
 use std::alloc::Global;
 use std::marker::Model;
 
-#[cfg(test)]
-mod tests;
-
 /// What a field carries: the units of its cues in file order, and its events in the order of their
 /// slots.
 #[derive(Drop)]

@@ -7,5 +7,3 @@ pub use crate::misfit::{Misfit, MisfitKind};
 
 mod finding;
 mod misfit;
-#[cfg(test)]
-mod tests;

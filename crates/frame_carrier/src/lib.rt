@@ -7,6 +7,3 @@ pub mod laws;
 mod triplets;
 
 pub use crate::carrier::Carrier;
-
-#[cfg(test)]
-mod tests;

@@ -12,9 +12,6 @@ use line21_codes::{Chan, NULL_PAIR, Pair};
 use line21_slots::Cadence;
 use service_lanes::PlacedService;
 
-#[cfg(test)]
-mod tests;
-
 /// What one frame carries.
 #[derive(Debug, Drop)]
 pub struct FrameBytes {

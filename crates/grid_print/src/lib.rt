@@ -12,6 +12,3 @@ mod text;
 
 pub use print::{put_all, put_all_of};
 pub use shown::Shown;
-
-#[cfg(test)]
-mod tests;

@@ -5,8 +5,6 @@ ghost use Rattle.std.specs.Prelude.{◌≡◌, ◌<◌, IfSome};
 ghost use Rattle.hex_digits.specs.HexDigits.{hex_value, lower_hex_digit, upper_hex_digit};
 
 pub mod laws;
-#[cfg(test)]
-mod tests;
 
 // In VALUES, for a byte that is no hex digit.
 const NONE: u8 = 0xFF;

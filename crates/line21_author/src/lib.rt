@@ -11,7 +11,5 @@ mod cue;
 mod event;
 mod opening;
 mod run;
-#[cfg(test)]
-mod tests;
 mod text;
 mod unit;

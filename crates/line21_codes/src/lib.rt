@@ -21,6 +21,3 @@ pub use pairs::{BadParity, NULL_PAIR, Pair, parity};
 pub use reading::read_pair;
 pub use styles::{Cell, Colour, Style, italic_mark, underline_mark};
 pub use writing::write_code;
-
-#[cfg(test)]
-mod tests;

@@ -13,6 +13,3 @@ mod rules;
 pub use field::Field;
 pub use memory::Memory;
 pub use modes::Mode;
-
-#[cfg(test)]
-mod tests;

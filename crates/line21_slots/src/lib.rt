@@ -5,5 +5,3 @@
 pub use crate::cadence::{Cadence, slot_step};
 
 mod cadence;
-#[cfg(test)]
-mod tests;

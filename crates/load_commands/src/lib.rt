@@ -6,5 +6,3 @@ pub use crate::load::run_load;
 mod load;
 mod reception;
 mod summary;
-#[cfg(test)]
-mod tests;

@@ -6,5 +6,3 @@ pub use crate::list::{MOST_LOAD, load_list};
 
 pub mod laws;
 mod list;
-#[cfg(test)]
-mod tests;

@@ -8,9 +8,5 @@ pub use crate::writer::{HEAD, LINE, head, packet_line, words_line};
 pub mod laws;
 mod phase;
 mod reader;
-#[cfg(test)]
-mod reader_tests;
 pub mod reading;
-#[cfg(test)]
-mod tests;
 mod writer;

@@ -11,5 +11,3 @@ mod importing;
 mod item_words;
 mod made;
 mod stop;
-#[cfg(test)]
-mod tests;

@@ -10,6 +10,4 @@ mod ahead;
 pub mod laws;
 mod letters;
 mod reader;
-#[cfg(test)]
-mod tests;
 mod writer;

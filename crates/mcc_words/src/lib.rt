@@ -8,5 +8,3 @@ pub mod laws;
 mod maker;
 mod missing;
 mod raised;
-#[cfg(test)]
-mod tests;

@@ -6,6 +6,3 @@ pub mod laws;
 mod places;
 
 pub use insertion::insert;
-
-#[cfg(test)]
-mod tests;

@@ -12,5 +12,3 @@ mod overlaid;
 mod overlay;
 mod programme;
 mod put;
-#[cfg(test)]
-mod tests;

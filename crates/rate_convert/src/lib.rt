@@ -12,6 +12,3 @@ mod sorted;
 pub use converter::Converter;
 pub use findings::{Misfit, MisfitKind, Which};
 pub use halver::Halver;
-
-#[cfg(test)]
-mod tests;

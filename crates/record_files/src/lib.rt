@@ -6,5 +6,3 @@ pub use crate::offence::{Offence, count_place, out_of_form};
 
 pub mod fields;
 pub mod offence;
-#[cfg(test)]
-mod tests;

@@ -9,5 +9,3 @@ pub use crate::run::run_in_memory;
 mod line;
 mod report;
 mod run;
-#[cfg(test)]
-mod tests;

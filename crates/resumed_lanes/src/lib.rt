@@ -14,5 +14,3 @@ pub mod part;
 pub mod place;
 pub mod slot_use;
 pub mod tables;
-#[cfg(test)]
-mod tests;

@@ -13,7 +13,5 @@ mod pairs;
 mod phase;
 mod reader;
 mod reading;
-#[cfg(test)]
-mod tests;
 mod words;
 mod writer;

@@ -10,6 +10,3 @@ mod writing;
 pub use parts::BlockPart;
 pub use reader::BlockReader;
 pub use writing::write_block;
-
-#[cfg(test)]
-mod tests;

@@ -15,5 +15,3 @@ mod front;
 pub mod laws;
 pub mod placed;
 mod placing;
-#[cfg(test)]
-mod tests;

@@ -7,6 +7,5 @@ pub mod EventLemmas
 pub mod WholeBlockLemmas
 pub mod FrontLemmas
 pub mod OverrunLemmas
-pub mod ExampleLemmas
 pub mod ReasonLemmas
 pub mod ChannelFiles

@@ -3,5 +3,4 @@ pub mod CarriedChannel
 pub mod Said
 pub mod Events
 pub mod Overruns
-pub mod Examples
 pub mod CaptionChannel

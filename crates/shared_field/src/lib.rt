@@ -14,5 +14,3 @@ mod parts;
 mod placed_units;
 mod second_channel;
 mod second_lanes;
-#[cfg(test)]
-mod tests;

@@ -4,5 +4,3 @@
 pub use crate::side_file::SideFile;
 
 mod side_file;
-#[cfg(test)]
-mod tests;

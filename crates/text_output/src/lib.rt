@@ -4,6 +4,3 @@
 mod gathered;
 
 pub use gathered::Gathered;
-
-#[cfg(test)]
-mod tests;

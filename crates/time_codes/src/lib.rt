@@ -10,7 +10,5 @@ pub use crate::time_code::TimeCode;
 mod counting;
 mod frames;
 pub mod laws;
-#[cfg(test)]
-mod tests;
 mod text;
 mod time_code;

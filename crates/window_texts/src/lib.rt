@@ -8,6 +8,3 @@ mod text;
 
 pub use differences::differs;
 pub use text::write_window;
-
-#[cfg(test)]
-mod tests;

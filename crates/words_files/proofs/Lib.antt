@@ -11,7 +11,6 @@ pub mod FrontLemmas
 pub mod GotLemmas
 pub mod LastPacketLemmas
 pub mod OffenceLemmas
-pub mod TestWords
 pub mod WordLemmas
 pub mod ReasonLemmas
 pub mod RefusedLemmas

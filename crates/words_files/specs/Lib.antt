@@ -1,4 +1,3 @@
-pub mod Examples
 pub mod Frames
 pub mod CarriedWords
 pub mod Received

@@ -6,5 +6,3 @@ pub use crate::carried::write_triplets;
 
 mod carried;
 pub mod laws;
-#[cfg(test)]
-mod tests;

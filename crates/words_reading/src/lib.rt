@@ -8,6 +8,4 @@ pub use crate::words::{TAKE, WORDS_LIMIT, read_words};
 
 mod frames;
 mod judge;
-#[cfg(test)]
-mod tests;
 mod words;

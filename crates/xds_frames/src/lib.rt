@@ -15,5 +15,3 @@ mod packets;
 mod plan;
 mod room;
 mod span;
-#[cfg(test)]
-mod tests;

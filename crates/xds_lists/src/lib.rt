@@ -15,7 +15,5 @@ pub mod listed;
 mod reading;
 mod record;
 mod sending;
-#[cfg(test)]
-mod tests;
 pub mod writer;
 mod writing;

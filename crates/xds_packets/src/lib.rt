@@ -12,6 +12,3 @@ mod under_way;
 pub use packets::{XdsPacket, checksum, sum_of};
 pub use reader::XdsReader;
 pub use texts::XdsText;
-
-#[cfg(test)]
-mod tests;

@@ -1,6 +1,0 @@
-use Rattle.std.proofs.Common.{ℕ, List}
-use Rattle.cc_verifier.specs.Verifiers.{HasVerified}
-use Rattle.caption_streams.proofs.tests.words_are_verified_up_to_the_first_finding.Given as goal
-
-abbrev pub invariant-loop-frame : goal.invariant-loop-frame
-invariant-loop-frame g l = ((before : List ℕ) × HasVerified before l.right.verifier) × ((before : List ℕ) × HasVerified before l.wrong.verifier)

@@ -1,0 +1,3 @@
+mod EverySection
+pub mod WordExamples
+pub mod ServiceExamples

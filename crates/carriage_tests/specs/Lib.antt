@@ -1,0 +1,2 @@
+pub mod ExampleWords
+pub mod ExampleFrames

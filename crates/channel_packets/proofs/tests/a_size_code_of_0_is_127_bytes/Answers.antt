@@ -1,5 +1,0 @@
-use Rattle.channel_packets.proofs.CutLemmas.{packets_of-are}
-use Rattle.channel_packets.proofs.tests.a_size_code_of_0_is_127_bytes.Goals as goal
-
-pub returns : goal.returns
-returns c = packets_of-are _

@@ -1,5 +1,0 @@
-use Rattle.channel_packets.proofs.CutLemmas.{packets_of-are}
-use Rattle.channel_packets.proofs.tests.bytes_without_an_open_packet_are_left_out.Goals as goal
-
-pub returns : goal.returns
-returns c = packets_of-are _

@@ -1,5 +1,0 @@
-use Rattle.channel_packets.proofs.CutLemmas.{packets_of-are}
-use Rattle.channel_packets.proofs.tests.the_last_packet_may_be_unfinished.Goals as goal
-
-pub returns-clause-packet : goal.returns-clause-packet
-returns-clause-packet c = packets_of-are _

@@ -1,0 +1,122 @@
+//! The adapters over a reader and a writer that fail at a chosen call.
+
+use cc_base::{Put, ReaderSource, Sink, Source, Took, WriterSink};
+use std::alloc::Global;
+use std::io;
+use std::io::{Read, Write};
+use std::test::Fail;
+
+/// A reader that gives its text byte by byte, and is interrupted at the call of a number.
+#[derive(Drop)]
+struct Interrupted<'a> {
+    text: &'a [u8],
+    calls: u8,
+    failing: u8,
+}
+
+impl<'a> Read for Interrupted<'a> {
+    fn read(&mut self, buf: &mut [u8]) -> io::Result<usize> {
+        let call = self.calls;
+        self.calls = self.calls.saturating_add(1);
+        if call == self.failing {
+            return Err(io::Error::from(io::ErrorKind::Interrupted));
+        }
+        match (self.text, buf) {
+            ([byte, rest @ ..], [place, ..]) => {
+                *place = *byte;
+                self.text = rest;
+                Ok(1)
+            }
+            _ => Ok(0),
+        }
+    }
+}
+
+#[test]
+fn a_read_that_fails_is_a_failed_take_and_isnt_tried_again(rt: HostRuntime) {
+    let runs = [
+        [Took::Failed, Took::Got(1), Took::Got(1), Took::End],
+        [Took::Got(1), Took::Failed, Took::Got(1), Took::End],
+        [Took::Got(1), Took::Got(1), Took::Failed, Took::End],
+        [Took::Got(1), Took::Got(1), Took::End, Took::Failed],
+    ];
+    for (failing, takes) in [0u8, 1, 2, 3].iter().zip(runs) {
+        let mut source = ReaderSource::new(Interrupted {
+            text: b"ab",
+            calls: 0,
+            failing: *failing,
+        });
+        let mut buf = [0u8; 4];
+        for due in takes {
+            assert_eq!(rt; source.take(&mut buf), due, "call {failing} fails");
+        }
+    }
+}
+
+/// A writer that takes at most two bytes a call, fails at the call of a number, and counts its flushes.
+#[derive(Drop)]
+struct Choppy {
+    got: Vec<u8>,
+    calls: u8,
+    failing: u8,
+    flushes: u8,
+}
+
+impl Choppy {
+    /// Counts a call, and says whether it fails.
+    fn fails(&mut self) -> bool {
+        let call = self.calls;
+        self.calls = self.calls.saturating_add(1);
+        call == self.failing
+    }
+}
+
+impl Write for Choppy {
+    fn write(&mut self, buf: &[u8]) -> io::Result<usize> {
+        if self.fails() {
+            return Err(io::Error::from(io::ErrorKind::Interrupted));
+        }
+        let most = buf.len().min(2);
+        self.got.extend_from_slice(&buf[..most])?;
+        Ok(most)
+    }
+
+    fn flush(&mut self) -> io::Result<()> {
+        self.flushes = self.flushes.saturating_add(1);
+        if self.fails() {
+            return Err(io::Error::from(io::ErrorKind::BrokenPipe));
+        }
+        Ok(())
+    }
+}
+
+fn writer_that_fails(alloc: Global, failing: u8) -> Choppy {
+    Choppy {
+        got: Vec::new(alloc),
+        calls: 0,
+        failing,
+        flushes: 0,
+    }
+}
+
+#[test]
+fn a_put_writes_all_and_flushes_once_or_fails(rt: HostRuntime) -> Result<(), Fail> {
+    let calls: [(u8, Put, &[u8], u8); 5] = [
+        (0, Put::Failed, b"", 0),
+        (1, Put::Failed, b"ab", 0),
+        (2, Put::Failed, b"abcd", 0),
+        (3, Put::Failed, b"abcde", 1),
+        (4, Put::Done, b"abcde", 1),
+    ];
+    for (failing, due, got, flushes) in calls {
+        let mut writer = writer_that_fails(rt.alloc(), failing);
+        let mut sink = WriterSink::new(&mut writer);
+        let nothing = sink.put(b"");
+        let answer = sink.put(b"abcde");
+        assert_eq!(rt; nothing, Put::Done);
+        assert_eq!(rt; answer, due, "call {failing} fails");
+        assert_eq!(rt; writer.got.as_slice(), got, "call {failing} fails");
+        assert_eq!(rt; writer.flushes, flushes, "call {failing} fails");
+    }
+    Ok(())
+}

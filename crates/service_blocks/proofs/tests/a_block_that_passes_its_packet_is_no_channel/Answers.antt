@@ -1,4 +1,0 @@
-use Rattle.service_blocks.proofs.tests.a_block_that_passes_its_packet_is_no_channel.Goals as goal
-
-pub returns : goal.returns
-returns c = λ (_, (refused, _)). refused
