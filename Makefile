@@ -2,6 +2,7 @@
 # make          proves every crate and builds the program: build/ccsuite
 # make check    the gate: every proof, the must-fail edits, the tests, the program by two compilers; on a new machine from nothing, later without
 #               the proofs and edits that passed there, of crates that are as they were, with all below them
+# make edits    tries the edits of edits/ too, of each crate, which takes hours: each must be refused; with CRATE=name those of one crate
 # make bench    measures each command, and cue lists, the receiver's frames, pairs and bytes of services by themselves, and puts the rows into bench/README.md
 # make lib      proves the library for C and builds it: build/libccsuite.a, in one file with what it needs of the kit, and build/libccsuite.so
 # make install  puts the program, the library with its header, the man page, completions, documents, examples and viewer under PREFIX
@@ -75,6 +76,9 @@ demo:
 check:
 	rt ci
 
+edits:
+	edits/try.sh $(CRATE)
+
 bench: build/ccsuite $(LIBRARY)
 	bench/pairs.sh
 	bench/build.sh
@@ -145,4 +149,4 @@ scale: $(PROGRAM)
 clean:
 	rm -rf build crates/*/out
 
-.PHONY: all lib demo check check-lib bench install uninstall check-install deb check-deb faults try scale clean
+.PHONY: all lib demo check edits check-lib bench install uninstall check-install deb check-deb faults try scale clean
