@@ -1,5 +1,5 @@
 # make demo     shows `ccsuite pairs` on a cue list within a minute, not yet proved; then does as `make`, and shows it again
-# make          proves every crate and builds the program: build/ccsuite
+# make          proves the program and every crate below it, as the gate does, and builds it: build/ccsuite
 # make check    the gate: every proof, the must-fail edits, the tests, the program by two compilers; on a new machine from nothing, later without
 #               the proofs and edits that passed there, of crates that are as they were, with all below them
 # make edits    tries the edits of edits/ too, of each crate, which takes hours: each must be refused; with CRATE=name those of one crate
@@ -32,32 +32,28 @@ VERSION := $(shell sed -n '1s/.*(\(.*\)).*/\1/p' package/changes)
 DEB = build/ccsuite_$(VERSION)_$(shell dpkg --print-architecture).deb
 # how many crates are proved side by side
 JOBS ?= $(shell nproc)
+export RT_JOBS ?= $(JOBS)
 LIST := examples/hello.csv
-LOG := build/prove.log
-CRATES := $(shell grep -c '^[a-z]' crates.txt)
-SOURCES := crates.txt HANDLES $(shell find crates -path '*/out' -prune -o -type f -print)
+SOURCES := crates.txt HANDLES $(shell find crates \( -name out -o -name must-fail \) -prune -o -type f -print)
+# says what to do where the kit isn't found
+FIND_RT = command -v rt > /dev/null || { echo "There is no rt on the PATH: put the kit's folder bin there, as in PATH=/opt/rattle/bin:\$$PATH"; exit 1; }
 
 all: build/ccsuite
 
 build/ccsuite: $(SOURCES)
+	@$(FIND_RT)
 	@mkdir -p build
-	@echo "$(CRATES) crates are proved, $(JOBS) side by side; what the prover says goes to $(LOG)"
-	@{ rt all check --jobs $(JOBS) 2>&1 || echo 'not proved'; } | tee $(LOG) | awk '\
-	    /^== / { name = $$2 } \
-	    /^logic=proved/ { printf "%2d of $(CRATES) proved: %s\n", ++done, name; fflush() } \
-	    /^not proved$$/ { failed = 1 } \
-	    END { exit failed }' || { echo 'Not proved: see $(LOG)'; exit 1; }
-	@cd crates/ccsuite && rt run -- pairs < ../../$(LIST) >> ../../$(LOG) 2>&1 || { echo 'Not built: see $(LOG)'; exit 1; }
-	@cp crates/ccsuite/out/ccsuite $@
+	@docs/prove.py ccsuite $@ build/prove.log
 
 lib: build/libccsuite.a build/libccsuite.so
 
 # The library's object with the kit's functions on malloc: it needs the C library alone.
 build/libccsuite.a: $(SOURCES)
+	@$(FIND_RT)
 	@mkdir -p build
-	@cd crates/ccsuite_c && rt lib > ../../build/lib.log 2>&1 || { echo 'Not built: see build/lib.log'; exit 1; }
+	@docs/prove.py ccsuite_c build/libccsuite_c.a build/lib.log
 	@rm -rf build/library && mkdir build/library
-	@cp crates/ccsuite_c/out/libccsuite_c.a build/library/libccsuite.a
+	@mv build/libccsuite_c.a build/library/libccsuite.a
 	@cd build/library && ar x $(KIT)/c/liblibc_c.a heap.pic.o && ar q libccsuite.a heap.pic.o && ranlib libccsuite.a
 	@mv build/library/libccsuite.a $@ && rm -r build/library
 
@@ -66,6 +62,7 @@ build/libccsuite.so: build/libccsuite.a library/exports
 	    -Wl,--whole-archive $< -Wl,--no-whole-archive
 
 demo:
+	@$(FIND_RT)
 	@mkdir -p build
 	@echo 'ccsuite pairs < $(LIST), not yet proved:'
 	@cd crates/ccsuite && rt try -- pairs < ../../$(LIST) 2> ../../build/try.log || { cat ../../build/try.log; exit 1; }
@@ -74,9 +71,11 @@ demo:
 	@./build/ccsuite pairs < $(LIST)
 
 check:
-	rt ci
+	@$(FIND_RT)
+	.ci/run
 
 edits:
+	@$(FIND_RT)
 	edits/try.sh $(CRATE)
 
 bench: build/ccsuite $(LIBRARY)
