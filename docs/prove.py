@@ -110,6 +110,7 @@ def follow(words, folder, log, progress):
         return process.wait()
     finally:
         process.terminate()
+        process.wait()
 
 
 def noted(lines, log):
@@ -133,9 +134,15 @@ def prove(name, is_library, room, log, progress):
     return built if not status and built.is_file() else None
 
 
+def end(*_):
+    """Ends the script, which takes away its copy first."""
+    signal.signal(signal.SIGTERM, signal.SIG_IGN)
+    sys.exit(143)
+
+
 def main():
     name, file, log_file = sys.argv[1], pathlib.Path(sys.argv[2]).absolute(), pathlib.Path(sys.argv[3])
-    signal.signal(signal.SIGTERM, lambda *_: sys.exit(143))
+    signal.signal(signal.SIGTERM, end)
     rows = rows_of((TOP / "crates.txt").read_text())
     names, jobs = below(name, rows), int(os.environ.get("RT_JOBS") or os.cpu_count())
     print(f"{name} and what is below it are proved, {len(names)} crates, {jobs} side by side; what the prover says goes to {log_file}", flush=True)
