@@ -18,6 +18,8 @@ pub struct Given<'a> {
     pub failing_takes: &'a [u64],
     /// The numbers of the puts to the output that fail, of those that aren't empty.
     pub failing_puts: &'a [u64],
+    /// The numbers of the puts to the error output that fail: those of the status line's pieces.
+    pub failing_line: &'a [u64],
     /// The most bytes that the output takes.
     pub room: usize,
 }
@@ -37,6 +39,7 @@ pub fn pairs_of(text: &[u8], piece: usize) -> Given<'_>
         failing_side: &[],
         failing_takes: &[],
         failing_puts: &[],
+        failing_line: &[],
         room: ROOM,
     }
 }

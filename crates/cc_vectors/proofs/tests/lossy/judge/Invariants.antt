@@ -1,6 +1,0 @@
-use Rattle.std.proofs.Common.{ℕ, List}
-use Rattle.cc_conceal.specs.Concealers.{HasConcealed}
-use Rattle.cc_vectors.proofs.tests.lossy.judge.Given as goal
-
-abbrev pub invariant-loop-packet : goal.invariant-loop-packet
-invariant-loop-packet g l = (before : List ℕ) × HasConcealed before l.concealer
