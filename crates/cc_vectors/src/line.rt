@@ -44,18 +44,38 @@ pub enum Line<'a> {
     Failing(Calls, &'a str),
     /// Its output isn't printed.
     Silent,
-    /// A run of these words, of none if there is no blank after `run`.
-    Run(Option<&'a str>),
+    /// A run without words.
+    RunAlone,
+    /// A run of the words of this text, split at this character.
+    Run(&'a str, char),
     /// A run of these words, whose output is then held.
     Feed(&'a str),
-    /// Parts of the last output: the first one's place, how far the next one's is from it, and the size of each.
-    Cut(usize, usize, usize),
+    /// So many of the first bytes of the last output become the output that is due.
+    Keep(usize),
+    /// Parts of the last output.
+    Cut(Parts),
+    /// The low bytes of the words in each of its parts.
+    Low(Parts),
+}
+
+/// Parts of an output.
+#[derive(Clone, Copy)]
+pub struct Parts {
+    /// The place of the first part.
+    pub at: usize,
+    /// How far the next one is from each; 0 if there is one part.
+    pub every: usize,
+    /// The bytes of each part.
+    pub count: usize,
 }
 
 /// The line of a text; None if it is no line of the rows.
 pub fn read_line(text: &str) -> Option<Line<'_>> {
     if text.is_empty() || text.starts_with('#') {
         return Some(Line::Remark);
+    }
+    if let Some(words) = text.strip_prefix("run|") {
+        return Some(Line::Run(words, '|'));
     }
     match text.split_once(' ') {
         None => read_word(text),
@@ -69,7 +89,7 @@ fn read_word(word: &str) -> Option<Line<'static>> {
         "side" => Some(Line::Side),
         "due" => Some(Line::Due),
         "silent" => Some(Line::Silent),
-        "run" => Some(Line::Run(None)),
+        "run" => Some(Line::RunAlone),
         "line" => Some(Line::Line("")),
         _ => None,
     }
@@ -83,10 +103,11 @@ fn read_more<'a>(word: &str, rest: &'a str) -> Option<Line<'a>> {
         "text" => Some(Line::Text(rest)),
         "hex" => Some(Line::Hex(1, rest)),
         "packet" => Some(Line::Packet(rest)),
-        "run" => Some(Line::Run(Some(rest))),
+        "run" => Some(Line::Run(rest, ' ')),
         "feed" => Some(Line::Feed(rest)),
         "piece" => Some(Line::Piece(rest.parse().ok()?)),
         "room" => Some(Line::Room(rest.parse().ok()?)),
+        "keep" => Some(Line::Keep(rest.parse().ok()?)),
         _ => {
             let (first, rest) = rest.split_once(' ')?;
             read_longer(word, first, rest)
@@ -101,16 +122,20 @@ fn read_longer<'a>(word: &str, first: &str, rest: &'a str) -> Option<Line<'a>> {
         "set" => Some(Line::Set(first.parse().ok()?, rest)),
         "drop" => Some(Line::Drop(first.parse().ok()?, rest.parse().ok()?)),
         "failing" => Some(Line::Failing(read_calls(first)?, rest)),
-        "cut" => {
-            let (every, count) = rest.split_once(' ')?;
-            Some(Line::Cut(
-                first.parse().ok()?,
-                every.parse().ok()?,
-                count.parse().ok()?,
-            ))
-        }
+        "cut" => Some(Line::Cut(read_parts(first, rest)?)),
+        "low" => Some(Line::Low(read_parts(first, rest)?)),
         _ => None,
     }
+}
+
+/// The parts of their first place and the rest.
+fn read_parts(first: &str, rest: &str) -> Option<Parts> {
+    let (every, count) = rest.split_once(' ')?;
+    Some(Parts {
+        at: first.parse().ok()?,
+        every: every.parse().ok()?,
+        count: count.parse().ok()?,
+    })
 }
 
 /// The calls that a word names.

@@ -8,8 +8,9 @@
 //!
 //! `piece N`, `room N` and `failing takes|side|puts|line N ..` say the sizes of the next run's takes, the room of its output and which of its calls
 //! fail, counted from 0; `silent` leaves its output out of what is printed. `run WORD ..` runs the program on the bytes that are held; `feed WORD ..`
-//! does too, and holds what the run put. `cut AT EVERY COUNT` prints parts of what the last run put. Empty lines, and those that begin with `#`, are
-//! for readers.
+//! does too, and holds what the run put. `run|WORD|WORD ..` is a run whose words may have blanks. `keep N` has the first bytes that the last run put be
+//! the output that is due. `cut AT EVERY COUNT` prints parts of what it put, and `low AT EVERY COUNT` the low bytes of the words in each part, after how
+//! many such parts come one after another. Empty lines, and those that begin with `#`, are for readers.
 #![tactic(auto)]
 
 mod line;

@@ -1,5 +1,6 @@
 //! What is printed of a run.
 
+use crate::line::Parts;
 use itoa::Buffer;
 use memory_runs::Ended;
 use std::alloc::AllocError;
@@ -120,25 +121,70 @@ fn put_groups(report: &mut Vec<u8>, bytes: &[u8]) -> Result<(), AllocError> {
         if at > 0 && at % 2 == 0 {
             report.push(b' ')?;
         }
-        report.push(DIGITS[usize::from(*byte >> 4)])?;
-        report.push(DIGITS[usize::from(*byte & 15)])?;
+        put_byte(report, *byte)?;
     }
     Ok(())
 }
 
-/// Adds parts of an output: so many bytes from `at` on, and again each `every` bytes on; just once if that is 0.
-pub fn put_parts(
-    report: &mut Vec<u8>,
-    output: &[u8],
-    at: usize,
-    every: usize,
-    count: usize,
-) -> Result<(), AllocError> {
-    let rest = output.get(at..).unwrap_or(b"");
-    let step = if every == 0 { usize::MAX } else { every };
-    for part in rest.chunks(step) {
-        let size = count.min(part.len());
-        put_bytes(report, part.get(..size).unwrap_or(part))?;
+/// Adds the digits of a byte.
+fn put_byte(report: &mut Vec<u8>, byte: u8) -> Result<(), AllocError> {
+    let high = DIGITS[usize::from(byte >> 4)];
+    let low = DIGITS[usize::from(byte & 15)];
+    report.extend_from_slice(&[high, low])
+}
+
+/// The bytes of a part that begins here, and of the next ones.
+fn front(rest: &[u8], count: usize) -> &[u8] {
+    rest.get(..count).unwrap_or(rest)
+}
+
+/// The bytes of an output from the first part on, and how far one part is from the next.
+fn laid_out(output: &[u8], parts: Parts) -> (&[u8], usize) {
+    let every = if parts.every == 0 {
+        usize::MAX
+    } else {
+        parts.every
+    };
+    (output.get(parts.at..).unwrap_or(b""), every)
+}
+
+/// Adds parts of an output, each as such an output is added.
+pub fn put_parts(report: &mut Vec<u8>, output: &[u8], parts: Parts) -> Result<(), AllocError> {
+    let (rest, every) = laid_out(output, parts);
+    for part in rest.chunks(every) {
+        put_bytes(report, front(part, parts.count))?;
     }
     Ok(())
+}
+
+/// Adds the low bytes of the words in parts of an output, a line for those that come one after another and are the same.
+pub fn put_low(report: &mut Vec<u8>, output: &[u8], parts: Parts) -> Result<(), AllocError> {
+    let (rest, every) = laid_out(output, parts);
+    let mut last: &[u8] = b"";
+    let mut times = 0usize;
+    for part in rest.chunks(every) {
+        let part = front(part, parts.count);
+        if times > 0 && part != last {
+            put_times(report, times, last)?;
+            times = 0;
+        }
+        last = part;
+        times = times.saturating_add(1);
+    }
+    put_times(report, times, last)
+}
+
+/// Adds a line of how many parts have these words, and of their low bytes.
+fn put_times(report: &mut Vec<u8>, times: usize, words: &[u8]) -> Result<(), AllocError> {
+    let mut buffer = Buffer::new();
+    report.push(b'*')?;
+    report.extend_from_slice(buffer.format(times).as_bytes())?;
+    report.push(b' ')?;
+    for word in words.chunks(2) {
+        match word.last() {
+            Some(low) => put_byte(report, *low)?,
+            None => (),
+        }
+    }
+    report.extend_from_slice(b"\n")
 }

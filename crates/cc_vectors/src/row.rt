@@ -1,7 +1,7 @@
 //! A row as it stands after some of its lines.
 
 use crate::line::{Calls, Line};
-use crate::report::{put_ended, put_line, put_parts};
+use crate::report::{put_ended, put_line, put_low, put_parts};
 use hex_digits::hex_value;
 use memory_runs::words::frame_of;
 use memory_runs::{Ended, Given, run_to_end};
@@ -94,9 +94,20 @@ impl Row {
                 *self = Row::new(alloc);
                 put_line(report, "row", name)?;
             }
-            Line::Run(words) => self.run(alloc, words, report)?,
-            Line::Feed(words) => self.feed(alloc, words, report)?,
-            Line::Cut(at, every, count) => put_parts(report, &self.put, at, every, count)?,
+            Line::RunAlone => {
+                report.extend_from_slice(b"run\n")?;
+                self.run(alloc, &[], report)?;
+            }
+            Line::Run(text, mark) => {
+                report.extend_from_slice(if mark == ' ' { b"run " } else { b"run|" })?;
+                report.extend_from_slice(text.as_bytes())?;
+                report.extend_from_slice(b"\n")?;
+                let words: Vec<&str> = text.split(mark).collect(alloc)?;
+                self.run(alloc, &words, report)?;
+            }
+            Line::Feed(text) => self.feed(alloc, text, report)?,
+            Line::Cut(parts) => put_parts(report, &self.put, parts)?,
+            Line::Low(parts) => put_low(report, &self.put, parts)?,
             line => self.prepare(alloc, line)?,
         }
         Ok(())
@@ -109,6 +120,10 @@ impl Row {
             Line::Due => self.due = Some(mem::replace(&mut self.held, Vec::new(alloc))),
             Line::Piece(size) => self.setting.piece = size,
             Line::Room(size) => self.setting.room = size,
+            Line::Keep(size) => {
+                let front = self.put.get(..size).ok_or(Stop::Unread)?;
+                self.due = Some(front.to_vec(alloc)?);
+            }
             Line::Silent => self.setting.is_silent = true,
             Line::Failing(calls, numbers) => add_numbers(self.setting.failing(calls), numbers)?,
             line => self.hold(alloc, line)?,
@@ -168,25 +183,22 @@ impl Row {
     fn run(
         &mut self,
         alloc: Global,
-        words: Option<&str>,
+        words: &[&str],
         report: &mut Vec<u8>,
-    ) -> Result<(), Stop> {
+    ) -> Result<(), AllocError> {
         let is_silent = self.setting.is_silent;
         let ended = self.end(alloc, words)?;
-        match words {
-            None => report.extend_from_slice(b"run\n")?,
-            Some(words) => put_line(report, "run", words)?,
-        }
         put_ended(report, &ended, self.due.as_deref(), is_silent)?;
         self.put = ended.out.bytes().to_vec(alloc)?;
         Ok(())
     }
 
     /// Runs the program, and holds what the run put. A status other than 0 is said.
-    fn feed(&mut self, alloc: Global, words: &str, report: &mut Vec<u8>) -> Result<(), Stop> {
-        let ended = self.end(alloc, Some(words))?;
+    fn feed(&mut self, alloc: Global, text: &str, report: &mut Vec<u8>) -> Result<(), AllocError> {
+        let words: Vec<&str> = text.split(' ').collect(alloc)?;
+        let ended = self.end(alloc, &words)?;
         if ended.status.code() != 0 {
-            put_line(report, "feed", words)?;
+            put_line(report, "feed", text)?;
             put_ended(report, &ended, None, false)?;
         }
         self.held = ended.out.bytes().to_vec(alloc)?;
@@ -194,13 +206,12 @@ impl Row {
     }
 
     /// Runs the program to its end on what is held and set. Nothing is set after it.
-    fn end(&mut self, alloc: Global, words: Option<&str>) -> Result<Ended, AllocError> {
+    fn end(&mut self, alloc: Global, words: &[&str]) -> Result<Ended, AllocError> {
         let setting = mem::replace(&mut self.setting, Setting::new(alloc));
-        let words = words_of(alloc, words)?;
         run_to_end(
             alloc,
             Given {
-                words: &words,
+                words,
                 text: &self.held,
                 piece: setting.piece,
                 side: &self.side,
@@ -211,14 +222,6 @@ impl Row {
                 room: setting.room,
             },
         )
-    }
-}
-
-/// The words of a text, split at each blank.
-fn words_of<'a>(alloc: Global, text: Option<&'a str>) -> Result<Vec<&'a str>, AllocError> {
-    match text {
-        None => Ok(Vec::new(alloc)),
-        Some(text) => text.split(' ').collect(alloc),
     }
 }
 
