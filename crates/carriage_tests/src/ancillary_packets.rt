@@ -56,10 +56,8 @@ fn frames_without_captions_are_the_vectors(rt: HostRuntime) {
         let user = distribution_packet(counter, [0x80, 0x80], checksum);
         let mut out = ArrayVec::new();
         write_packet(0x61, 0x01, user.as_slice(), &mut out);
-        assert_eq!(rt; out.len(), 160, "at {counter}");
-        assert_eq!(rt;
-            out.as_slice(),
-            caption_bytes(front, back).as_slice(),
+        assert!(rt;
+            out.len() == 160 && out.as_slice() == caption_bytes(front, back).as_slice(),
             "at {counter}"
         );
     }
@@ -75,7 +73,7 @@ fn a_frame_with_a_code_is_the_vector(rt: HostRuntime) {
     let user = distribution_packet(0, [0x94, 0x20], 0x0B);
     let mut out = ArrayVec::new();
     write_packet(0x61, 0x01, user.as_slice(), &mut out);
-    assert_eq!(rt; out.as_slice(), caption_bytes(front, back).as_slice());
+    assert!(rt; out.as_slice() == caption_bytes(front, back).as_slice());
 }
 
 #[test]
@@ -83,7 +81,7 @@ fn a_packet_of_another_kind_is_the_vector(rt: HostRuntime) {
     let mut out = ArrayVec::new();
     write_packet(0x61, 0x02, &[0x00], &mut out);
     let words = [0x000, 0x3FF, 0x3FF, 0x161, 0x102, 0x101, 0x200, 0x164];
-    assert_eq!(rt; out.as_slice(), bytes_of(&[&words[..]]).as_slice());
+    assert!(rt; out.as_slice() == bytes_of(&[&words[..]]).as_slice());
 }
 
 #[test]
@@ -93,7 +91,7 @@ fn a_packet_may_be_empty(rt: HostRuntime) {
     let bytes = [
         0x00, 0x00, 0x03, 0xFF, 0x03, 0xFF, 0x01, 0x61, 0x01, 0x01, 0x02, 0x00, 0x02, 0x62,
     ];
-    assert_eq!(rt; out.as_slice(), &bytes[..]);
+    assert!(rt; out.as_slice() == &bytes[..]);
 }
 
 #[test]
@@ -103,8 +101,7 @@ fn a_packet_of_255_user_words_is_full(rt: HostRuntime) {
     let front = [0x000, 0x3FF, 0x3FF, 0x161, 0x101, 0x2FF];
     // 0x161 + 0x101 + 256 * 0xFF is 0x162 modulo 0x200
     let words: [&[u16]; 3] = [&front, &[0x2FF; 255], &[0x162]];
-    assert!(rt; out.is_full());
-    assert_eq!(rt; out.as_slice(), bytes_of(&words).as_slice());
+    assert!(rt; out.is_full() && out.as_slice() == bytes_of(&words).as_slice());
 }
 
 // The bytes 1 to 16 and their 8-bit words: bit 8 where a byte has an odd number of ones, else bit 9.
@@ -137,7 +134,7 @@ fn user_words_are_written_around_each_eight(rt: HostRuntime) {
         write_packet(0x61, 0x01, &BYTES[..many.min(16)], &mut out);
         let front = [0x000, 0x3FF, 0x3FF, 0x161, 0x101, count];
         let want = bytes_of(&[&front[..], &WORDS[..many.min(16)], &[checksum]]);
-        assert_eq!(rt; out.as_slice(), want.as_slice(), "{many} bytes");
+        assert!(rt; out.as_slice() == want.as_slice(), "{many} bytes");
     }
 }
 
@@ -151,6 +148,5 @@ fn the_last_words_stand_behind_all_eights(rt: HostRuntime) {
     write_packet(0x61, 0x01, user.as_slice(), &mut out);
     // The words of FC to FF, and 0x062 + 0x0FF + 255 * 256 / 2 + 128 * 0x100, which is 0x0E1 modulo 0x200
     let last = bytes_of(&[&[0x2FC, 0x1FD, 0x1FE, 0x2FF, 0x2E1][..]]);
-    assert_eq!(rt; out.len(), 524);
-    assert!(rt; out.as_slice().ends_with(last.as_slice()));
+    assert!(rt; out.len() == 524 && out.as_slice().ends_with(last.as_slice()));
 }

@@ -45,7 +45,7 @@ fn frames_without_captions_are_the_known_packets(rt: HostRuntime) {
         expected[6] = low;
         expected[71] = low;
         expected[72] = sum;
-        assert_eq!(rt; packet.as_slice(), expected.as_slice());
+        assert!(rt; packet.as_slice() == expected.as_slice());
     }
 }
 
@@ -54,21 +54,19 @@ fn a_packet_has_sections_of_every_kind(rt: HostRuntime) {
     let mut packet = ArrayVec::new();
     write_cdp(Rate::F25, 0xE7, 0x1234, &EVERY_KIND, &mut packet);
     let bytes = packet.as_slice();
-    assert_eq!(rt; bytes.len(), 37);
-    assert_eq!(rt;
-        &bytes[..7],
-        [0x96, 0x69, 0x25, 0x3F, 0xE7, 0x12, 0x34].as_slice()
+    assert!(rt;
+        bytes.len() == 37
+            && &bytes[..7] == [0x96, 0x69, 0x25, 0x3F, 0xE7, 0x12, 0x34].as_slice()
+            && &bytes[7..33] == EVERY_KIND.as_slice()
+            && &bytes[33..] == [0x74, 0x12, 0x34, 0xDB].as_slice()
     );
-    assert_eq!(rt; &bytes[7..33], EVERY_KIND.as_slice());
-    assert_eq!(rt; &bytes[33..], [0x74, 0x12, 0x34, 0xDB].as_slice());
 }
 
 #[test]
 fn sections_are_met_one_after_another(rt: HostRuntime) {
     let mut rest: &[u8] = &EVERY_KIND;
     for len in [5, 9, 5, 5, 2] {
-        assert!(rt; !rest.is_empty());
-        assert_eq!(rt; section_len(rest), len);
+        assert!(rt; !rest.is_empty() && section_len(rest) == len);
         rest = &rest[section_len(rest)..];
     }
     assert!(rt; rest.is_empty());
@@ -79,8 +77,5 @@ fn a_second_section_stands_behind_the_first(rt: HostRuntime) {
     let mut sections = ArrayVec::new();
     cc_section(&[], &mut sections);
     cc_section(&[triplet(true, 3, 0x0A, 0x32)], &mut sections);
-    assert_eq!(rt;
-        sections.as_slice(),
-        [0x72, 0xE0, 0x72, 0xE1, 0xFF, 0x0A, 0x32].as_slice()
-    );
+    assert!(rt; sections.as_slice() == [0x72, 0xE0, 0x72, 0xE1, 0xFF, 0x0A, 0x32].as_slice());
 }

@@ -72,8 +72,7 @@ fn the_new_section_stands_in_its_place(rt: HostRuntime) {
     for &(packet, wanted) in SECTIONS {
         let mut out = ArrayVec::new();
         let answer = insert_into(packet, &[RESUME], &mut out);
-        assert_eq!(rt; answer, Some(Ok(())));
-        assert_eq!(rt; out.as_slice(), wanted);
+        assert!(rt; answer == Some(Ok(())) && out.as_slice() == wanted);
     }
 }
 
@@ -92,12 +91,9 @@ fn a_packet_has_at_most_255_bytes(rt: HostRuntime) {
     packet[241] = 0x02;
     packet[242] = 0xE9;
     let mut out = ArrayVec::new();
-    assert_eq!(rt; insert_into(&packet, &[RESUME; 3], &mut out), Some(Ok(())));
-    assert_eq!(rt; out.len(), 254);
+    assert!(rt; insert_into(&packet, &[RESUME; 3], &mut out) == Some(Ok(())));
+    assert!(rt; out.len() == 254);
     let mut out = ArrayVec::new();
-    assert_eq!(rt;
-        insert_into(&packet, &[RESUME; 4], &mut out),
-        Some(Err(LimitOf::Packet))
-    );
+    assert!(rt; insert_into(&packet, &[RESUME; 4], &mut out) == Some(Err(LimitOf::Packet)));
     assert!(rt; out.is_empty());
 }

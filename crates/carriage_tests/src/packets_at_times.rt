@@ -79,7 +79,7 @@ fn behind_head(lines: &[u8]) -> ArrayVec<u8, 256> {
 fn has(rt: &impl Abort, file: &[u8], packets: &[(u32, usize)]) {
     for found in [read(file), read_in_lines(file)] {
         match found {
-            Ok(found) => assert_eq!(rt; found.as_slice(), packets),
+            Ok(found) => assert!(rt; found.as_slice() == packets),
             Err(_) => panic!(rt; "the file is refused"),
         }
     }
@@ -90,7 +90,7 @@ fn offends(rt: &impl Abort, file: &[u8], place: usize, why: Why) {
     for found in [read(file), read_in_lines(file)] {
         match found {
             Ok(_) => panic!(rt; "no offence"),
-            Err(found) => assert_eq!(rt; found, (place, why)),
+            Err(found) => assert!(rt; found == (place, why)),
         }
     }
 }
@@ -373,10 +373,10 @@ fn packets_come_with_their_line_end(rt: HostRuntime) {
             Err(_) => panic!(&rt; "refused"),
         }
     }
-    assert_eq!(rt; told, 2);
-    assert_eq!(rt; reader.frame(), 8);
+    assert!(rt; told == 2);
+    assert!(rt; reader.frame() == 8);
     let packet: &[u8] = &[0x80, 0x01, 0x01, 0x77, 0xF9];
-    assert_eq!(rt; reader.bytes(), packet);
+    assert!(rt; reader.bytes() == packet);
 }
 
 // A reader that took a file.
@@ -427,11 +427,11 @@ fn lines_are_read_in_one_go(rt: HostRuntime) {
         ),
     ];
     for (before, bytes, line) in rows {
-        assert_eq!(rt; line_behind(&rt, &behind_head(before), bytes), Some(line));
+        assert!(rt; line_behind(&rt, &behind_head(before), bytes) == Some(line));
     }
     let file = b"File Format=MacCaption_MCC V2.0\nTime Code Rate=60DF\n";
     let found = line_behind(&rt, file, b"00:10:00:00\t8001Z81\n");
-    assert_eq!(rt; found, Some((35_964, 4, 20)));
+    assert!(rt; found == Some((35_964, 4, 20)));
 }
 
 // Lines that are blank, comments, attributes, cut or spelled otherwise, lines that offend, and lines that have begun.
@@ -472,9 +472,8 @@ fn other_lines_are_not_read_in_one_go(rt: HostRuntime) {
         b"00:00:00:00\t80010177F9\t\n",
     ];
     for (row, bytes) in lines.iter().enumerate() {
-        assert_eq!(rt;
-            line_behind(&rt, &behind_head(b""), bytes),
-            None,
+        assert!(rt;
+            line_behind(&rt, &behind_head(b""), bytes).is_none(),
             "row {row}"
         );
     }
@@ -488,7 +487,7 @@ fn other_lines_are_not_read_in_one_go(rt: HostRuntime) {
         b"00:00:00:29\t8001Z81\r",
     ];
     for before in fronts {
-        assert_eq!(rt; line_behind(&rt, &behind_head(before), line), None);
+        assert!(rt; line_behind(&rt, &behind_head(before), line).is_none());
     }
     let heads: [&[u8]; 3] = [
         b"",
@@ -496,10 +495,10 @@ fn other_lines_are_not_read_in_one_go(rt: HostRuntime) {
         b"File Format=MacCaption_MCC V2.0\nTime Code Rate=24",
     ];
     for file in heads {
-        assert_eq!(rt; line_behind(&rt, file, line), None);
+        assert!(rt; line_behind(&rt, file, line).is_none());
     }
     let file = b"File Format=MacCaption_MCC V2.0\nTime Code Rate=24\n";
-    assert_eq!(rt; line_behind(&rt, file, b"00:00:00:01.0,1\t8001Z81\n"), None);
+    assert!(rt; line_behind(&rt, file, b"00:00:00:01.0,1\t8001Z81\n").is_none());
 }
 
 // Lines that are read in one go, and others between them.

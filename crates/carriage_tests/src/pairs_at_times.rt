@@ -11,9 +11,9 @@ fn reads(rt: &impl Abort, alloc: Global, bytes: &[u8], pairs: &[(u32, u8, u8)]) 
     match read_scc(alloc, bytes) {
         Ok(read) => {
             let read = read.as_slice();
-            assert_eq!(rt; read.len(), pairs.len());
+            assert!(rt; read.len() == pairs.len());
             for ((frame, pair), wanted) in read.iter().zip(pairs) {
-                assert_eq!(rt; (*frame, pair.a, pair.b), *wanted);
+                assert!(rt; (*frame, pair.a, pair.b) == *wanted);
             }
         }
         Err(_) => panic!(rt; "the file is refused"),
@@ -25,8 +25,7 @@ fn offends(rt: &impl Abort, alloc: Global, bytes: &[u8], place: u64, why: Why) {
     assert!(rt; bytes.len() <= 1000);
     match read_scc(alloc, bytes) {
         Err(SccFault::Malformed(refusal)) => {
-            assert_eq!(rt; refusal.place, place);
-            assert_eq!(rt; refusal.why, why);
+            assert!(rt; refusal.place == place && refusal.why == why);
         }
         _ => panic!(rt; "no offence"),
     }
@@ -36,7 +35,7 @@ fn offends(rt: &impl Abort, alloc: Global, bytes: &[u8], place: u64, why: Why) {
 fn is_too_long(rt: &impl Abort, alloc: Global, bytes: &[u8]) {
     assert!(rt; bytes.len() <= 1000);
     match read_scc(alloc, bytes) {
-        Err(SccFault::Limit(which)) => assert_eq!(rt; which, LimitOf::Frames),
+        Err(SccFault::Limit(which)) => assert!(rt; which == LimitOf::Frames),
         _ => panic!(rt; "no limit"),
     }
 }

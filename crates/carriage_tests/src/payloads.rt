@@ -53,17 +53,17 @@ fn letters_stand_for_bytes(rt: HostRuntime) {
         let Some(bytes) = letter_bytes(letter) else {
             panic!(&rt; "no letter");
         };
-        assert_eq!(rt; bytes.len(), size);
+        assert!(rt; bytes.len() == size);
         for (place, byte) in bytes.iter().enumerate() {
             let expected = if place % 3 == 0 { 0xFA } else { 0x00 };
-            assert_eq!(rt; *byte, expected);
+            assert!(rt; *byte == expected);
         }
     }
     for &(letter, bytes) in OTHERS {
-        assert_eq!(rt; letter_bytes(letter), Some(bytes));
+        assert!(rt; letter_bytes(letter) == Some(bytes));
     }
     for other in b"AF0VWXYgoz /\n" {
-        assert_eq!(rt; letter_bytes(*other), None);
+        assert!(rt; letter_bytes(*other).is_none());
     }
 }
 
@@ -92,13 +92,13 @@ fn payloads_are_taken(rt: HostRuntime) {
         } else {
             None
         };
-        assert_eq!(rt; offence(text), expected, "row {row}");
+        assert!(rt; offence(text) == expected, "row {row}");
     }
     let mut reader = PayloadReader::new();
     for byte in FRAME {
         assert!(rt; reader.take(*byte).is_ok());
     }
-    assert_eq!(rt; reader.bytes(), FRAME_BYTES.as_slice());
+    assert!(rt; reader.bytes() == FRAME_BYTES.as_slice());
 }
 
 // No item begins or goes on with the byte, the text ends too soon, or a byte is one too many.
@@ -138,7 +138,10 @@ fn other_texts_offend_in_form(rt: HostRuntime) {
         (b"\xFF", 0),
     ];
     for &(text, place) in TEXTS {
-        assert_eq!(rt; offence(text), Some((place, Why::MccSyntax)), "at {place}");
+        assert!(rt;
+            offence(text) == Some((place, Why::MccSyntax)),
+            "at {place}"
+        );
     }
 }
 
@@ -162,7 +165,7 @@ fn wrong_checksum_bytes_offend(rt: HostRuntime) {
         (b"U", 0),
     ];
     for &(text, place) in TEXTS {
-        assert_eq!(rt; offence(text), Some((place, Why::AncSum)), "at {place}");
+        assert!(rt; offence(text) == Some((place, Why::AncSum)), "at {place}");
     }
 }
 
@@ -241,7 +244,7 @@ fn packets_are_written_with_their_checksum_byte(rt: HostRuntime) {
     for (did, sdid, user, text) in rows {
         let mut out = ArrayVec::new();
         write_payload(did, sdid, user, &mut out);
-        assert_eq!(rt; out.as_slice(), text);
+        assert!(rt; out.as_slice() == text);
     }
 }
 
@@ -263,8 +266,7 @@ fn behind(text: &[u8]) -> Option<(ArrayVec<u8, 259>, &[u8])> {
 fn begins(rt: &impl Abort, text: &[u8], bytes: &[u8], rest: &[u8]) {
     match behind(text) {
         Some((found, after)) => {
-            assert_eq!(rt; found.as_slice(), bytes);
-            assert_eq!(rt; after, rest);
+            assert!(rt; found.as_slice() == bytes && after == rest);
         }
         None => panic!(rt; "no payload"),
     }
@@ -342,8 +344,7 @@ fn fillers_are_read_in_one_go(rt: HostRuntime) {
     for (text, rest) in behind_most {
         match behind(text) {
             Some((bytes, after)) => {
-                assert_eq!(rt; bytes.len(), 259);
-                assert_eq!(rt; after, rest);
+                assert!(rt; bytes.len() == 259 && after == rest);
             }
             None => panic!(&rt; "no payload"),
         }
@@ -398,13 +399,9 @@ fn payloads_are_read_in_place(rt: HostRuntime) {
         for byte in front {
             let _ = reader.take(*byte);
         }
-        assert_eq!(rt;
-            reader.read_payload(b"80010177F9\n"),
-            Some(b"\n".as_slice())
-        );
+        assert!(rt; reader.read_payload(b"80010177F9\n") == Some(b"\n".as_slice()));
         let packet: &[u8] = &[0x80, 0x01, 0x01, 0x77, 0xF9];
-        assert_eq!(rt; reader.bytes(), packet);
-        assert!(rt; reader.is_whole());
+        assert!(rt; reader.bytes() == packet && reader.is_whole());
         assert!(rt; reader.take(b'0').is_err());
         assert!(rt; reader.read_payload(b"80010177F8").is_none());
         assert!(rt; reader.bytes().is_empty());

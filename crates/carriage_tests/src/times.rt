@@ -26,9 +26,7 @@ fn non_drop(h: u8, m: u8, s: u8, f: u8) -> TimeCode {
 
 // The time code names this frame, and the frame has this time code.
 fn names(rt: &impl Abort, t: TimeCode, frame: u32) {
-    assert_eq!(rt; frame_of(t), Ok(frame));
-    assert!(rt; frame < 2_589_408);
-    assert_eq!(rt; time_of(frame, t.drop_frame), t);
+    assert!(rt; frame_of(t) == Ok(frame) && frame < 2_589_408 && time_of(frame, t.drop_frame) == t);
 }
 
 #[test]
@@ -49,8 +47,10 @@ fn frames_are_counted_through_the_day(rt: HostRuntime) {
     names(&rt, drop_frame(1, 0, 0, 0), 107_892);
     names(&rt, drop_frame(10, 0, 0, 0), 1_078_920);
     names(&rt, drop_frame(23, 59, 59, 29), 2_589_407);
-    assert_eq!(rt; frame_of(non_drop(23, 59, 59, 29)), Ok(2_591_999));
-    assert_eq!(rt; time_of(2_591_999, false), non_drop(23, 59, 59, 29));
+    assert!(rt;
+        frame_of(non_drop(23, 59, 59, 29)) == Ok(2_591_999)
+            && time_of(2_591_999, false) == non_drop(23, 59, 59, 29)
+    );
 }
 
 #[test]
@@ -68,7 +68,7 @@ fn other_times_have_no_frame(rt: HostRuntime) {
         drop_frame(0, 9, 0, 0),
         drop_frame(0, 11, 0, 0),
     ] {
-        assert_eq!(rt; frame_of(t), Err(Why::NoSuchTime));
+        assert!(rt; frame_of(t) == Err(Why::NoSuchTime));
     }
 }
 
@@ -89,12 +89,11 @@ fn texts_of_time_codes_are_read(rt: HostRuntime) {
         "-1:23:45:06",
         "é1:23:45:6",
     ];
-    assert_eq!(rt; read_time("01:23:45:06"), Some(non_drop(1, 23, 45, 6)));
-    assert_eq!(rt; read_time("01:23:45;06"), Some(drop_frame(1, 23, 45, 6)));
-    assert_eq!(rt; read_time("99:99:99;99"), Some(drop_frame(99, 99, 99, 99)));
-    assert_eq!(rt;
-        read_time_bytes(b"00:00:59;29"),
-        Some(drop_frame(0, 0, 59, 29))
+    assert!(rt;
+        read_time("01:23:45:06") == Some(non_drop(1, 23, 45, 6))
+            && read_time("01:23:45;06") == Some(drop_frame(1, 23, 45, 6))
+            && read_time("99:99:99;99") == Some(drop_frame(99, 99, 99, 99))
+            && read_time_bytes(b"00:00:59;29") == Some(drop_frame(0, 0, 59, 29))
     );
     let colon = TimeCode {
         h: 1,
@@ -103,7 +102,7 @@ fn texts_of_time_codes_are_read(rt: HostRuntime) {
         f: 6,
         drop_frame: false,
     };
-    assert_eq!(rt; time_text(colon), *b"01:23:45:06");
+    assert!(rt; time_text(colon) == *b"01:23:45:06");
     let semicolon = TimeCode {
         h: 10,
         m: 0,
@@ -111,9 +110,9 @@ fn texts_of_time_codes_are_read(rt: HostRuntime) {
         f: 29,
         drop_frame: true,
     };
-    assert_eq!(rt; time_text(semicolon), *b"10:00:59;29");
+    assert!(rt; time_text(semicolon) == *b"10:00:59;29");
     for &text in OTHERS {
-        assert_eq!(rt; read_time(text), None);
+        assert!(rt; read_time(text).is_none());
     }
 }
 
@@ -122,7 +121,7 @@ fn names_in(rt: &impl Abort, count: Counting, t: (u8, u8, u8, u8), frame: u32) {
     let (h, m, s, f) = t;
     for mark in [false, true] {
         let drop_frame = mark;
-        assert_eq!(rt;
+        assert!(rt;
             frame_in(
                 count,
                 TimeCode {
@@ -132,21 +131,20 @@ fn names_in(rt: &impl Abort, count: Counting, t: (u8, u8, u8, u8), frame: u32) {
                     f,
                     drop_frame
                 }
-            ),
-            Ok(frame)
+            ) == Ok(frame)
         );
     }
     assert!(rt; frame < count.day_frames());
     let drop_frame = count.has_drop_frame();
-    assert_eq!(rt;
-        time_in(count, frame),
-        TimeCode {
-            h,
-            m,
-            s,
-            f,
-            drop_frame
-        }
+    assert!(rt;
+        time_in(count, frame)
+            == TimeCode {
+                h,
+                m,
+                s,
+                f,
+                drop_frame
+            }
     );
 }
 
@@ -208,7 +206,7 @@ fn other_times_have_no_frame_at_a_rate(rt: HostRuntime) {
         (Counting::F60Drop, 24, 0, 0, 0),
     ] {
         let drop_frame = false;
-        assert_eq!(rt;
+        assert!(rt;
             frame_in(
                 count,
                 TimeCode {
@@ -218,11 +216,10 @@ fn other_times_have_no_frame_at_a_rate(rt: HostRuntime) {
                     f,
                     drop_frame
                 }
-            ),
-            Err(Why::NoSuchTime)
+            ) == Err(Why::NoSuchTime)
         );
         let drop_frame = true;
-        assert_eq!(rt;
+        assert!(rt;
             frame_in(
                 count,
                 TimeCode {
@@ -232,8 +229,7 @@ fn other_times_have_no_frame_at_a_rate(rt: HostRuntime) {
                     f,
                     drop_frame
                 }
-            ),
-            Err(Why::NoSuchTime)
+            ) == Err(Why::NoSuchTime)
         );
     }
 }
@@ -254,10 +250,10 @@ fn rates_of_files_are_read(rt: HostRuntime) {
         Counting::F60Drop,
     ];
     for (text, count) in texts.iter().zip(counts) {
-        assert_eq!(rt; Counting::read(text), Some(count));
-        assert_eq!(rt; count.text(), *text);
+        assert!(rt; Counting::read(text) == Some(count));
+        assert!(rt; count.text() == *text);
     }
     for &text in OTHERS {
-        assert_eq!(rt; Counting::read(text), None);
+        assert!(rt; Counting::read(text).is_none());
     }
 }

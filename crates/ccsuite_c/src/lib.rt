@@ -29,5 +29,7 @@ mod loose;
 mod pointer;
 mod receiver;
 mod state;
+#[cfg(test)]
+mod tests;
 mod told;
 mod verifier;

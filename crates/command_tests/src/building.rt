@@ -25,20 +25,17 @@ fn a_side_file_is_read_before_the_input_and_stops_the_run_where_it_is_refused(
     let alloc = rt.alloc();
     let (mut alone, mut beside) = (sink_of(alloc)?, sink_of(alloc)?);
     let built = run_build(alloc, &mut source_of(alloc, HI)?, &mut alone);
-    assert_eq!(rt; built, Status::Ok);
-    assert!(rt; !alone.bytes().is_empty());
+    assert!(rt; built == Status::Ok && !alone.bytes().is_empty());
 
     let mut side = source_of(alloc, b"ccsuite,2,25,1\n")?;
     let mut input = source_of(alloc, HI)?;
     let refused = run_dual(alloc, &mut input, &mut side, &mut beside);
-    assert!(rt; matches!(refused, Status::Malformed(_, _)));
-    assert!(rt; beside.bytes().is_empty());
+    assert!(rt; matches!(refused, Status::Malformed(_, _)) && beside.bytes().is_empty());
 
     let mut side = source_of(alloc, b"ccsuite,1,29.97,30\n")?;
     let answer = run_dual(alloc, &mut input, &mut side, &mut beside);
-    assert_eq!(rt; answer, Status::Ok);
-    assert!(rt; beside.bytes() == alone.bytes());
+    assert!(rt; answer == Status::Ok && beside.bytes() == alone.bytes());
     let mut buf = [0u8; 1];
-    assert_eq!(rt; input.take(&mut buf), Took::End);
+    assert!(rt; input.take(&mut buf) == Took::End);
     Ok(())
 }

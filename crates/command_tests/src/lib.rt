@@ -1,10 +1,8 @@
-//! Tests of the commands, of captions as streams, of reported runs, and of the calls for C.
+//! Tests of the commands, of captions as streams, and of runs over memory with their reports.
 #![tactic(auto)]
 
 #[cfg(test)]
 mod building;
-#[cfg(test)]
-mod c_calls;
 #[cfg(test)]
 mod dual_runs;
 #[cfg(test)]

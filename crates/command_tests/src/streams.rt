@@ -43,14 +43,14 @@ fn what_changed_is_told_once(rt: HostRuntime) -> Result<(), Fail> {
     for frame in 0..8 {
         let mut words = ArrayVec::new();
         assert!(rt; building.next(&mut words));
-        assert_eq!(rt; receiving.feed(&words), Ok(FRAME), "{frame}");
+        assert!(rt; receiving.feed(&words) == Ok(FRAME), "{frame}");
     }
     let mut sink = MemorySink::new(alloc, 100, Vec::new(alloc))?;
-    assert_eq!(rt; receiving.put_changes(&mut sink), Put::Done);
-    assert_eq!(rt; receiving.put_changes(&mut sink), Put::Done);
-    assert_eq!(rt; sink.bytes(), SHOWN);
-    assert_eq!(rt; receiving.put_screens(&mut sink), Put::Done);
-    assert_eq!(rt; sink.bytes(), SHOWN_TWICE);
+    assert!(rt; receiving.put_changes(&mut sink) == Put::Done);
+    assert!(rt; receiving.put_changes(&mut sink) == Put::Done);
+    assert!(rt; sink.bytes() == SHOWN);
+    assert!(rt; receiving.put_screens(&mut sink) == Put::Done);
+    assert!(rt; sink.bytes() == SHOWN_TWICE);
     let shown = receiving.reception().cell(Chan::Cc1, 15, 1);
     assert!(rt;
         matches!(shown, Some(cell) if cell.ch == 'I' && cell.style.colour == Colour::White)
@@ -74,23 +74,20 @@ fn words_are_verified_up_to_the_first_finding(rt: HostRuntime) -> Result<(), Fai
         kind: Kind45::GridDiffers(Which::Chan(Chan::Cc1)),
     };
     for frame in 0..30 {
-        assert_eq!(rt; right.verdict(), Status::Short(frame));
+        assert!(rt; right.verdict() == Status::Short(frame));
         let mut words = ArrayVec::new();
         assert!(rt; building.next(&mut words));
-        assert_eq!(rt; right.feed(&words), Ok(FRAME));
+        assert!(rt; right.feed(&words) == Ok(FRAME));
         let answer = if frame < 8 {
             Ok(FRAME)
         } else {
             Err(FeedFault::Found(found))
         };
-        assert_eq!(rt; wrong.feed(&words), answer);
+        assert!(rt; wrong.feed(&words) == answer);
     }
     assert!(rt; !building.next(&mut ArrayVec::new()));
-    assert_eq!(rt; (right.verdict(), right.finding()), (Status::Ok, None));
-    assert_eq!(rt;
-        (wrong.verdict(), wrong.finding()),
-        (Status::Differs(found), Some(found))
-    );
+    assert!(rt; (right.verdict(), right.finding()) == (Status::Ok, None));
+    assert!(rt; (wrong.verdict(), wrong.finding()) == (Status::Differs(found), Some(found)));
     Ok(())
 }
 
@@ -104,11 +101,10 @@ fn a_frame_that_is_missing_is_counted(rt: HostRuntime) -> Result<(), Fail> {
     assert!(rt; building.next(&mut ArrayVec::new()));
     let mut third = ArrayVec::new();
     assert!(rt; building.next(&mut third));
-    assert_eq!(rt; receiving.feed(&first), Ok(FRAME));
-    assert_eq!(rt; receiving.feed(&third), Ok(FRAME));
+    assert!(rt; receiving.feed(&first) == Ok(FRAME));
+    assert!(rt; receiving.feed(&third) == Ok(FRAME));
     let reception = receiving.reception();
-    assert_eq!(rt; reception.frames(), 2);
-    assert_eq!(rt; (reception.number(), reception.missing()), (2, 1));
+    assert!(rt; reception.frames() == 2 && (reception.number(), reception.missing()) == (2, 1));
     Ok(())
 }
 
@@ -119,26 +115,20 @@ fn a_word_above_3ff_is_refused_from_then_on(rt: HostRuntime) -> Result<(), Fail>
         used: 2,
         ended: Ended::No,
     };
-    assert_eq!(rt; receiving.reception().finish(), Ok(()));
-    assert_eq!(rt; receiving.feed(&[0x00, 0x00]), Ok(read));
+    assert!(rt; receiving.reception().finish() == Ok(()));
+    assert!(rt; receiving.feed(&[0x00, 0x00]) == Ok(read));
     let cut_short = Refusal {
         place: 2,
         why: Why::Truncated,
     };
-    assert_eq!(rt; receiving.reception().finish(), Err(cut_short));
+    assert!(rt; receiving.reception().finish() == Err(cut_short));
     let refusal = Refusal {
         place: 2,
         why: Why::HighBits,
     };
-    assert_eq!(rt;
-        receiving.feed(&[0xFF, 0x03]),
-        Err(FeedFault::Refused(refusal))
-    );
-    assert_eq!(rt;
-        receiving.feed(&[0x03, 0xFF]),
-        Err(FeedFault::Refused(refusal))
-    );
-    assert_eq!(rt; receiving.reception().finish(), Err(refusal));
+    assert!(rt; receiving.feed(&[0xFF, 0x03]) == Err(FeedFault::Refused(refusal)));
+    assert!(rt; receiving.feed(&[0x03, 0xFF]) == Err(FeedFault::Refused(refusal)));
+    assert!(rt; receiving.reception().finish() == Err(refusal));
     Ok(())
 }
 
@@ -167,8 +157,8 @@ fn a_refused_list_is_answered_with_its_status(rt: HostRuntime) {
             None,
         ),
     ] {
-        assert_eq!(rt; Building::read(rt.alloc(), list).err(), Some(builder));
-        assert_eq!(rt; Verifying::read(rt.alloc(), list).err(), verifier);
+        assert!(rt; Building::read(rt.alloc(), list).err() == Some(builder));
+        assert!(rt; Verifying::read(rt.alloc(), list).err() == verifier);
     }
 }
 
@@ -181,7 +171,7 @@ fn a_source_gives_its_bytes_in_turn(rt: HostRuntime) {
         (Took::Got(2), b"LOL"),
         (Took::End, b"LOL"),
     ] {
-        assert_eq!(rt; source.take(&mut piece), took);
-        assert_eq!(rt; piece, *bytes);
+        assert!(rt; source.take(&mut piece) == took);
+        assert!(rt; piece == *bytes);
     }
 }

@@ -369,13 +369,13 @@ fn characters_are_spelled_by_the_first_code_set_that_has_them(rt: HostRuntime) {
         ('ÿ', 0xFF),
     ] {
         let spelling = spell_dtv(ch).expect(&rt, "a character of G0 or G1");
-        assert_eq!(rt; spelling.as_slice(), &[code][..], "{ch:?}");
+        assert!(rt; spelling.as_slice() == &[code][..], "{ch:?}");
     }
     for (ch, code) in G2 {
         let spelling = spell_dtv(ch).expect(&rt, "a character of G2");
-        assert_eq!(rt; spelling.as_slice(), &[0x10, code][..], "{ch:?}");
         assert!(rt;
-            is_cut(rt.alloc(), spelling.as_slice(), &[Put(Some(ch))]),
+            spelling.as_slice() == &[0x10, code][..]
+                && is_cut(rt.alloc(), spelling.as_slice(), &[Put(Some(ch))]),
             "{ch:?}"
         );
     }
@@ -387,32 +387,24 @@ fn characters_are_spelled_by_the_first_code_set_that_has_them(rt: HostRuntime) {
 #[test]
 #[tactic(auto, unfolding(dtvcc_codes::specs::CharacterSpellings::dtvcc_spelling))]
 fn commands_are_written_without_bits_that_have_no_meaning(rt: HostRuntime) {
-    assert_eq!(rt; write_command(&Put(None)).as_slice(), &[0x10, 0x20][..]);
-    assert_eq!(rt; write_command(&Put(Some('_'))).as_slice(), &[0x5F][..]);
-    assert_eq!(rt;
-        write_command(&Put(Some('™'))).as_slice(),
-        &[0x10, 0x39][..]
+    assert!(rt;
+        write_command(&Put(None)).as_slice() == &[0x10, 0x20][..]
+            && write_command(&Put(Some('_'))).as_slice() == &[0x5F][..]
+            && write_command(&Put(Some('™'))).as_slice() == &[0x10, 0x39][..]
+            && write_command(&Cw(7)).as_slice() == &[0x87][..]
+            && write_command(&Dly(5)).as_slice() == &[0x8D, 0x05][..]
+            && write_command(&Dlc).as_slice() == &[0x8E][..]
     );
-    assert_eq!(rt; write_command(&Cw(7)).as_slice(), &[0x87][..]);
-    assert_eq!(rt; write_command(&Dly(5)).as_slice(), &[0x8D, 0x05][..]);
-    assert_eq!(rt; write_command(&Dlc).as_slice(), &[0x8E][..]);
-    assert_eq!(rt;
-        write_command(&Spa(PLAIN)).as_slice(),
-        &[0x90, 0x05, 0x00][..]
-    );
+    assert!(rt; write_command(&Spa(PLAIN)).as_slice() == &[0x90, 0x05, 0x00][..]);
     let location = Spl { row: 11, col: 41 };
-    assert_eq!(rt;
-        write_command(&location).as_slice(),
-        &[0x92, 0x0B, 0x29][..]
-    );
+    assert!(rt; write_command(&location).as_slice() == &[0x92, 0x0B, 0x29][..]);
     let definition = [0x98, 0x18, 0x3C, 0x32, 0x00, 0x09, 0x09];
-    assert_eq!(rt; write_command(&Df(DF0)).as_slice(), &definition[..]);
+    assert!(rt; write_command(&Df(DF0)).as_slice() == &definition[..]);
     let last = [0x9F, 0x2D, 0xE3, 0xD1, 0x8F, 0x3F, 0x3E];
-    assert_eq!(rt; write_command(&Df(DF7)).as_slice(), &last[..]);
+    assert!(rt; write_command(&Df(DF7)).as_slice() == &last[..]);
 }
 
 #[test]
 fn a_reader_is_small(rt: HostRuntime) {
-    assert!(rt; size_of::<OpenCommand>() <= 24);
-    assert!(rt; size_of::<CommandReader>() <= 96);
+    assert!(rt; size_of::<OpenCommand>() <= 24 && size_of::<CommandReader>() <= 96);
 }

@@ -52,7 +52,7 @@ fn bytes_go_to_their_services_alone(rt: HostRuntime) -> Result<(), AllocError> {
     assert!(rt; services.is_touched());
     services.reset();
     assert!(rt; !services.is_used(1) && !has(&services, 1, 0) && !has(&services, 63, 1));
-    assert_eq!(rt; services.frames(), 2);
+    assert!(rt; services.frames() == 2);
     Ok(())
 }
 
@@ -65,14 +65,14 @@ fn delays_end_in_their_frames(rt: HostRuntime) -> Result<(), AllocError> {
     send(&mut services, 6, b"\x8d\x02");
     send(&mut services, 5, SHOWN);
     send(&mut services, 6, SHOWN);
-    assert_eq!(rt; services.held(5), 8);
+    assert!(rt; services.held(5) == 8);
     for frame in 2..9u8 {
         tick(&mut services);
-        assert_eq!(rt; has(&services, 5, 0), frame >= 4);
-        assert_eq!(rt; has(&services, 6, 0), frame >= 7);
-        assert_eq!(rt; services.is_touched(), frame == 4 || frame == 7);
+        assert!(rt; has(&services, 5, 0) == (frame >= 4));
+        assert!(rt; has(&services, 6, 0) == (frame >= 7));
+        assert!(rt; services.is_touched() == (frame == 4 || frame == 7));
     }
-    assert_eq!(rt; services.held(5), 0);
+    assert!(rt; services.held(5) == 0);
     Ok(())
 }
 
@@ -84,14 +84,14 @@ fn the_lowest_full_service_is_named(rt: HostRuntime) -> Result<(), AllocError> {
         send(&mut services, service, b"\x8d\x0a");
         send(&mut services, service, &[0x41; 127]);
     }
-    assert_eq!(rt; services.filled(), None);
+    assert!(rt; services.filled().is_none());
     send(&mut services, 9, b"A");
-    assert_eq!(rt; services.filled(), Some(9));
+    assert!(rt; services.filled() == Some(9));
     send(&mut services, 7, b"A");
-    assert_eq!(rt; services.filled(), Some(7));
+    assert!(rt; services.filled() == Some(7));
     send(&mut services, 8, b"A");
-    assert_eq!(rt; services.filled(), Some(7));
+    assert!(rt; services.filled() == Some(7));
     tick(&mut services);
-    assert_eq!(rt; services.filled(), None);
+    assert!(rt; services.filled().is_none());
     Ok(())
 }

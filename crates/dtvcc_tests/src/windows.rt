@@ -136,7 +136,7 @@ fn text_stands_at_the_pen(rt: HostRuntime) -> Result<(), AllocError> {
             &["C..", ".B."],
         ),
     ];
-    assert_eq!(rt; first_wrong(rt.alloc(), CASES)?, None);
+    assert!(rt; first_wrong(rt.alloc(), CASES)?.is_none());
     Ok(())
 }
 
@@ -152,7 +152,7 @@ fn text_behind_the_last_column_is_dropped(rt: HostRuntime) -> Result<(), AllocEr
             &["..............................................................YZ"],
         ),
     ];
-    assert_eq!(rt; first_wrong(rt.alloc(), CASES)?, None);
+    assert!(rt; first_wrong(rt.alloc(), CASES)?.is_none());
     Ok(())
 }
 
@@ -171,7 +171,7 @@ fn backspace_removes_the_cell_before_the_pen(rt: HostRuntime) -> Result<(), Allo
             &["AB.", "C.."],
         ),
     ];
-    assert_eq!(rt; first_wrong(rt.alloc(), CASES)?, None);
+    assert!(rt; first_wrong(rt.alloc(), CASES)?.is_none());
     Ok(())
 }
 
@@ -194,7 +194,7 @@ fn form_feed_clears_and_goes_to_the_beginning(rt: HostRuntime) -> Result<(), All
             &["D..", "..."],
         ),
     ];
-    assert_eq!(rt; first_wrong(rt.alloc(), CASES)?, None);
+    assert!(rt; first_wrong(rt.alloc(), CASES)?.is_none());
     Ok(())
 }
 
@@ -214,7 +214,7 @@ fn clear_leaves_the_pen(rt: HostRuntime) -> Result<(), AllocError> {
             &["...", ".C."],
         ),
     ];
-    assert_eq!(rt; first_wrong(rt.alloc(), CASES)?, None);
+    assert!(rt; first_wrong(rt.alloc(), CASES)?.is_none());
     Ok(())
 }
 
@@ -245,7 +245,7 @@ fn row_return_clears_the_row(rt: HostRuntime) -> Result<(), AllocError> {
             &["...", "D.."],
         ),
     ];
-    assert_eq!(rt; first_wrong(rt.alloc(), CASES)?, None);
+    assert!(rt; first_wrong(rt.alloc(), CASES)?.is_none());
     Ok(())
 }
 
@@ -318,7 +318,7 @@ fn carriage_return_goes_to_the_next_row_or_rolls(rt: HostRuntime) -> Result<(), 
             &["...", "..."],
         ),
     ];
-    assert_eq!(rt; first_wrong(rt.alloc(), CASES)?, None);
+    assert!(rt; first_wrong(rt.alloc(), CASES)?.is_none());
     Ok(())
 }
 
@@ -330,7 +330,7 @@ fn locate_stays_in_the_window(rt: HostRuntime) -> Result<(), AllocError> {
         (&[Size(2, 3), Locate(2, 0), Text("A")], &["...", "A.."]),
         (&[Size(2, 3), Locate(0, 3), Text("A")], &["..A", "..."]),
     ];
-    assert_eq!(rt; first_wrong(rt.alloc(), CASES)?, None);
+    assert!(rt; first_wrong(rt.alloc(), CASES)?.is_none());
     Ok(())
 }
 
@@ -401,7 +401,7 @@ fn redefinition_keeps_what_lies_in_both_sizes(rt: HostRuntime) -> Result<(), All
         ),
         (&[Size(1, 4), Text("ABCD"), Size(2, 2)], &["AB", ".."]),
     ];
-    assert_eq!(rt; first_wrong(rt.alloc(), CASES)?, None);
+    assert!(rt; first_wrong(rt.alloc(), CASES)?.is_none());
     Ok(())
 }
 
@@ -439,7 +439,7 @@ fn redefinition_brings_the_pen_into_the_size(rt: HostRuntime) -> Result<(), Allo
             &["ABC", "D..", "..."],
         ),
     ];
-    assert_eq!(rt; first_wrong(rt.alloc(), CASES)?, None);
+    assert!(rt; first_wrong(rt.alloc(), CASES)?.is_none());
     Ok(())
 }
 
@@ -484,7 +484,7 @@ fn predefined_window_styles(rt: HostRuntime) {
                 border_kind: 0,
                 border: BLACK,
             };
-            assert_eq!(rt; window_style(n), style, "style {n}");
+            assert!(rt; window_style(n) == style, "style {n}");
         }
     }
 }
@@ -516,7 +516,7 @@ fn predefined_pen_styles(rt: HostRuntime) {
                 bg: fill(opacity, BLACK),
                 edge: BLACK,
             };
-            assert_eq!(rt; pen_style(n), (pen, colors), "style {n}");
+            assert!(rt; pen_style(n) == (pen, colors), "style {n}");
         }
     }
 }
@@ -525,15 +525,15 @@ fn predefined_pen_styles(rt: HostRuntime) {
 fn styles_of_a_definition(rt: HostRuntime) -> Result<(), AllocError> {
     let mut window = Window::new(rt.alloc())?;
     window.define(&definition(1, 4, 0, 0));
-    assert!(rt; window.live());
-    assert_eq!(rt; window.attributes(), window_style(1));
-    assert_eq!(rt; window.definition().ws, 0);
+    assert!(rt;
+        window.live() && window.attributes() == window_style(1) && window.definition().ws == 0
+    );
     window.put(Some('A'));
     window.define(&definition(1, 4, 5, 6));
-    assert_eq!(rt; window.attributes(), window_style(5));
+    assert!(rt; window.attributes() == window_style(5));
     window.put(Some('B'));
     window.define(&definition(1, 4, 0, 0));
-    assert_eq!(rt; window.attributes(), window_style(5));
+    assert!(rt; window.attributes() == window_style(5));
     window.put(Some('C'));
     let pens = [
         (0u8, 'A', pen_style(1)),
@@ -542,7 +542,7 @@ fn styles_of_a_definition(rt: HostRuntime) -> Result<(), AllocError> {
     ];
     for (col, ch, (pen, colors)) in pens {
         assert!(rt; window.live());
-        assert_eq!(rt; window.cell(0, col), Some(DCell { ch, pen, colors }));
+        assert!(rt; window.cell(0, col) == Some(DCell { ch, pen, colors }));
     }
     Ok(())
 }
@@ -577,8 +577,8 @@ fn characters_keep_the_pen_that_wrote_them(rt: HostRuntime) -> Result<(), AllocE
     ];
     for (col, ch, pen, colors) in wanted {
         assert!(rt; window.live());
-        assert_eq!(rt; window.cell(0, col), Some(DCell { ch, pen, colors }));
-        assert_eq!(rt; window.attributes(), window_style(1));
+        assert!(rt; window.cell(0, col) == Some(DCell { ch, pen, colors }));
+        assert!(rt; window.attributes() == window_style(1));
     }
     Ok(())
 }
@@ -593,23 +593,19 @@ fn windows_are_there_from_define_to_delete(rt: HostRuntime) -> Result<(), AllocE
     let mut window = Window::new(rt.alloc())?;
     assert!(rt; !window.live());
     window.define(&definition(2, 4, 0, 0));
-    assert!(rt; window.live());
-    assert!(rt; window.visible());
+    assert!(rt; window.live() && window.visible());
     window.set_visible(false);
-    assert!(rt; window.live());
-    assert!(rt; !window.visible());
-    assert_eq!(rt; window.definition(), definition(2, 4, 0, 0));
+    assert!(rt;
+        window.live() && !window.visible() && window.definition() == definition(2, 4, 0, 0)
+    );
     window.set_attributes(attributes);
-    assert!(rt; window.live());
-    assert_eq!(rt; window.attributes(), attributes);
+    assert!(rt; window.live() && window.attributes() == attributes);
     window.put(Some('A'));
     assert!(rt; window.live());
     window.delete();
     assert!(rt; !window.live());
     window.define(&definition(2, 4, 0, 0));
-    assert!(rt; window.live());
-    assert!(rt; window.visible());
-    assert_eq!(rt; window.attributes(), window_style(1));
+    assert!(rt; window.live() && window.visible() && window.attributes() == window_style(1));
     assert!(rt; has(&window, &["....", "...."]));
     Ok(())
 }
@@ -626,8 +622,7 @@ fn rows_are_those_that_can_have_a_cell(rt: HostRuntime) -> Result<(), AllocError
     ] {
         apply(&mut window, call);
     }
-    assert!(rt; window.live());
-    assert_eq!(rt; window.rows(), 1..3);
+    assert!(rt; window.live() && window.rows() == (1..3));
     Ok(())
 }
 

@@ -57,20 +57,19 @@ fn pieces_are_granted_up_to_125_bytes(rt: HostRuntime) -> Result<(), Fail> {
         },
     ];
     let mut budget = Budget::begin(30, 60);
-    assert_eq!(rt; budget.left, 125);
-    assert_eq!(rt; budget.held_after(), 2);
+    assert!(rt; budget.left == 125 && budget.held_after() == 2);
     for piece in &pieces {
-        assert_eq!(rt; budget.spend(piece.bytes), piece.granted);
-        assert_eq!(rt;
-            budget,
-            Budget {
-                start: 30,
-                end: 60,
-                left: piece.left
-            }
+        assert!(rt; budget.spend(piece.bytes) == piece.granted);
+        assert!(rt;
+            budget
+                == Budget {
+                    start: 30,
+                    end: 60,
+                    left: piece.left
+                }
+                && budget.left <= 127
+                && budget.held_after() == piece.held
         );
-        assert!(rt; budget.left <= 127);
-        assert_eq!(rt; budget.held_after(), piece.held);
     }
     Ok(())
 }

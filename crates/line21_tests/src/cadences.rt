@@ -17,7 +17,7 @@ const RATES: [Rate; 8] = [
 fn the_fields_take_turns_at_59_94_and_60(rt: HostRuntime) {
     for rate in RATES {
         let double = matches!(rate, Rate::F5994 | Rate::F60);
-        assert_eq!(rt; slot_step(rate), if double { 2 } else { 1 });
+        assert!(rt; slot_step(rate) == (if double { 2 } else { 1 }));
         for frame in 0..6 {
             for (channel, first) in [
                 (Chan::Cc1, 0),
@@ -26,7 +26,7 @@ fn the_fields_take_turns_at_59_94_and_60(rt: HostRuntime) {
                 (Chan::Cc4, 1),
             ] {
                 let has = Cadence::of(rate, channel).has_slot_in(frame);
-                assert_eq!(rt; has, !double || frame % 2 == first);
+                assert!(rt; has == (!double || frame % 2 == first));
             }
         }
     }
@@ -48,6 +48,6 @@ fn slots_before_a_frame_are_counted(rt: HostRuntime) {
         (Cadence::OddFrames, 2, 1),
         (Cadence::OddFrames, 41, 20),
     ] {
-        assert_eq!(rt; cadence.slot_from(frame), slot);
+        assert!(rt; cadence.slot_from(frame) == slot);
     }
 }

@@ -350,7 +350,7 @@ fn texts_have_32_bytes_at_most(rt: HostRuntime) {
         (33, 0x0E, false),
         (34, 0x4D, false),
     ] {
-        assert_eq!(rt; ends_with(letters, check), ends);
+        assert!(rt; ends_with(letters, check) == ends);
     }
 }
 
@@ -364,6 +364,6 @@ fn texts_are_summed(rt: HostRuntime) {
         (1, 1, "", 0x6F),
     ] {
         let text = XdsText::of(text.as_bytes());
-        assert_eq!(rt; checksum(class, kind, text.as_slice()), check);
+        assert!(rt; checksum(class, kind, text.as_slice()) == check);
     }
 }

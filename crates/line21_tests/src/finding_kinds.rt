@@ -40,8 +40,7 @@ fn findings_have_the_reasons_40_to_46(rt: HostRuntime) {
         (Kind45::EightBits, 46, "EightBits"),
     ];
     for &(kind, number, name) in FINDINGS {
-        assert_eq!(rt; kind.why().number(), number);
-        assert_eq!(rt; kind.why().name(), name);
+        assert!(rt; kind.why().number() == number && kind.why().name() == name);
     }
 }
 
@@ -56,6 +55,6 @@ fn misfits_have_their_names(rt: HostRuntime) {
         (MisfitKind::Changed(Which::Service(1)), "Changed"),
     ];
     for &(kind, name) in MISFITS {
-        assert_eq!(rt; kind.name(), name);
+        assert!(rt; kind.name() == name);
     }
 }

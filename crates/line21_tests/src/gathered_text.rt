@@ -15,13 +15,15 @@ fn a_text_longer_than_the_room_is_put_in_order(rt: HostRuntime) -> Result<(), Al
     text.write(&long, &mut sink);
     text.write_number(4_294_967_295, &mut sink);
     text.write_character('♪', &mut sink);
-    assert_eq!(rt; text.answer(), Put::Done);
-    assert_eq!(rt; text.flush(&mut sink), Put::Done);
+    assert!(rt; text.answer() == Put::Done);
+    assert!(rt; text.flush(&mut sink) == Put::Done);
     let bytes = sink.bytes();
-    assert_eq!(rt; bytes.len(), 150_013);
-    assert!(rt; bytes.starts_with(&[b'a'; 40_000]));
-    assert!(rt; bytes.ends_with(b"ll4294967295\xE2\x99\xAA"));
-    assert_eq!(rt; bytes[79_999..80_001], *b"bl".as_slice());
+    assert!(rt;
+        bytes.len() == 150_013
+            && bytes.starts_with(&[b'a'; 40_000])
+            && bytes.ends_with(b"ll4294967295\xE2\x99\xAA")
+            && bytes[79_999..80_001] == *b"bl".as_slice()
+    );
     Ok(())
 }
 
@@ -34,7 +36,6 @@ fn nothing_is_written_behind_a_put_that_failed(rt: HostRuntime) -> Result<(), Al
     for piece in [&[b'a'; 40_000], &[b'b'; 40_000], &[b'c'; 40_000]] {
         text.write(piece, &mut sink);
     }
-    assert_eq!(rt; text.answer(), Put::Failed);
-    assert!(rt; sink.bytes().ends_with(&[b'a'; 40_000]));
+    assert!(rt; text.answer() == Put::Failed && sink.bytes().ends_with(&[b'a'; 40_000]));
     Ok(())
 }

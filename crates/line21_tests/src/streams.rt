@@ -20,8 +20,8 @@ fn pieces_and_failing_calls_come_in_turn(rt: HostRuntime) -> Result<(), Fail> {
         (Took::Got(2), b"gh"),
         (Took::End, b"gh"),
     ] {
-        assert_eq!(rt; source.take(&mut buf), want);
-        assert_eq!(rt; &buf[..2], bytes.as_slice());
+        assert!(rt; source.take(&mut buf) == want);
+        assert!(rt; &buf[..2] == bytes.as_slice());
     }
     Ok(())
 }
@@ -30,12 +30,12 @@ fn pieces_and_failing_calls_come_in_turn(rt: HostRuntime) -> Result<(), Fail> {
 fn a_sink_fails_at_chosen_puts_and_past_its_room(rt: HostRuntime) -> Result<(), Fail> {
     let alloc = rt.alloc();
     let mut sink = MemorySink::new(alloc, 5, [1].to_vec(alloc)?)?;
-    assert_eq!(rt; sink.put(b"abc"), Put::Done);
-    assert_eq!(rt; sink.put(b""), Put::Done);
-    assert_eq!(rt; sink.put(b"d"), Put::Failed);
-    assert_eq!(rt; sink.put(b"def"), Put::Failed);
-    assert_eq!(rt; put_pieces(&[b"d", b"", b"e"], &mut sink), Put::Done);
-    assert_eq!(rt; sink.bytes(), b"abcde".as_slice());
+    assert!(rt; sink.put(b"abc") == Put::Done);
+    assert!(rt; sink.put(b"") == Put::Done);
+    assert!(rt; sink.put(b"d") == Put::Failed);
+    assert!(rt; sink.put(b"def") == Put::Failed);
+    assert!(rt; put_pieces(&[b"d", b"", b"e"], &mut sink) == Put::Done);
+    assert!(rt; sink.bytes() == b"abcde".as_slice());
     Ok(())
 }
 
@@ -46,21 +46,15 @@ fn a_source_is_read_to_its_end_within_the_limit(rt: HostRuntime) -> Result<(), F
     let whole = read_whole(alloc, &mut source, 6)
         .ok()
         .expect(&rt, "six bytes");
-    assert_eq!(rt; whole.as_slice(), b"abcdef".as_slice());
+    assert!(rt; whole.as_slice() == b"abcdef".as_slice());
     let mut source = SteadySource::new(b"abcdef".to_vec(alloc)?);
-    assert_eq!(rt;
-        read_whole(alloc, &mut source, 5).err(),
-        Some(ReadError::Limit)
-    );
+    assert!(rt; read_whole(alloc, &mut source, 5).err() == Some(ReadError::Limit));
     let mut source = MemorySource::new(
         b"abcdef".to_vec(alloc)?,
         [1].to_vec(alloc)?,
         [6].to_vec(alloc)?,
     );
-    assert_eq!(rt;
-        read_whole(alloc, &mut source, 6).err(),
-        Some(ReadError::Fault)
-    );
+    assert!(rt; read_whole(alloc, &mut source, 6).err() == Some(ReadError::Fault));
     Ok(())
 }
 
@@ -72,12 +66,12 @@ fn readers_and_writers_are_sources_and_sinks(rt: HostRuntime) -> Result<(), Fail
     let whole = read_whole(alloc, &mut source, 7)
         .ok()
         .expect(&rt, "seven bytes");
-    assert_eq!(rt; whole.as_slice(), text.as_slice());
+    assert!(rt; whole.as_slice() == text.as_slice());
     let mut room = [0u8; 8];
     let mut sink = WriterSink::new(room.as_mut_slice());
-    assert_eq!(rt; sink.put(b"captions"), Put::Done);
-    assert_eq!(rt; sink.put(b""), Put::Done);
-    assert_eq!(rt; sink.put(b"!"), Put::Failed);
+    assert!(rt; sink.put(b"captions") == Put::Done);
+    assert!(rt; sink.put(b"") == Put::Done);
+    assert!(rt; sink.put(b"!") == Put::Failed);
     Ok(())
 }
 
@@ -92,10 +86,12 @@ fn delays_last_whole_frames(rt: HostRuntime) {
         (Rate::F5994, 255, 1529),
         (Rate::F60, 0, 0),
     ] {
-        assert_eq!(rt; rate.delay_frames(tenths), frames);
-        assert_eq!(rt; Rate::from_code(rate.code()), Some(rate));
+        assert!(rt; rate.delay_frames(tenths) == frames);
+        assert!(rt; Rate::from_code(rate.code()) == Some(rate));
     }
-    assert_eq!(rt; Why::GridDiffers.number(), 43);
-    assert_eq!(rt; Why::AncSum.name(), "AncSum");
-    assert_eq!(rt; LimitOf::Cues.name(), "Cues");
+    assert!(rt;
+        Why::GridDiffers.number() == 43
+            && Why::AncSum.name() == "AncSum"
+            && LimitOf::Cues.name() == "Cues"
+    );
 }

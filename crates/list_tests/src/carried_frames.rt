@@ -110,8 +110,10 @@ fn frames_without_captions_differ_in_their_counters_and_sums(
             },
         )?;
         let words = carrier.words(&silence());
-        assert_eq!(rt; words.len(), 160, "frame {place}");
-        assert_eq!(rt; words.as_slice(), bytes.as_slice(), "frame {place}");
+        assert!(rt;
+            words.len() == 160 && words.as_slice() == bytes.as_slice(),
+            "frame {place}"
+        );
     }
     Ok(())
 }
@@ -144,7 +146,7 @@ fn pairs_stand_in_the_triplets_of_their_fields(rt: HostRuntime) -> Result<(), Al
     ];
     for (two, frame) in pairs_and_frames {
         let words = Carrier::new(Rate::F2997).words(&frame_of(Some(RESUME_1), Some(two)));
-        assert_eq!(rt; words.as_slice(), bytes_of(rt.alloc(), frame)?.as_slice());
+        assert!(rt; words.as_slice() == bytes_of(rt.alloc(), frame)?.as_slice());
     }
     Ok(())
 }
@@ -157,7 +159,7 @@ fn the_rate_stands_in_the_packet(rt: HostRuntime) -> Result<(), AllocError> {
         ..FIRST
     };
     let words = Carrier::new(Rate::F30).words(&silence());
-    assert_eq!(rt; words.as_slice(), bytes_of(rt.alloc(), at_30)?.as_slice());
+    assert!(rt; words.as_slice() == bytes_of(rt.alloc(), at_30)?.as_slice());
     Ok(())
 }
 
@@ -183,14 +185,14 @@ fn a_frame_has_twenty_triplets_of_which_two_count(rt: HostRuntime) {
         a: 0,
         b: 0,
     };
-    assert_eq!(rt; triplets.len(), 20);
+    assert!(rt; triplets.len() == 20);
     for (place, triplet) in triplets.as_slice().iter().enumerate() {
         let wanted = match place {
             0 => one,
             1 => two,
             _ => filler,
         };
-        assert_eq!(rt; *triplet, wanted, "triplet {place}");
+        assert!(rt; *triplet == wanted, "triplet {place}");
     }
 }
 
@@ -204,7 +206,7 @@ fn a_call_of_triplets_is_a_frame(rt: HostRuntime) -> Result<(), AllocError> {
     let mut carrier = Carrier::new(Rate::F2997);
     let _ = carrier.triplets(&frame_of(Some(RESUME_1), Some(RESUME_2)));
     let words = carrier.words(&silence());
-    assert_eq!(rt; words.as_slice(), bytes_of(rt.alloc(), second)?.as_slice());
+    assert!(rt; words.as_slice() == bytes_of(rt.alloc(), second)?.as_slice());
     Ok(())
 }
 
@@ -219,7 +221,7 @@ fn words_are_put_into_a_buffer_of_the_callers(rt: HostRuntime) -> Result<(), All
     for frame in [FIRST, second] {
         let mut words = ArrayVec::new();
         carrier.put_words(&silence(), &mut words);
-        assert_eq!(rt; words.as_slice(), bytes_of(rt.alloc(), frame)?.as_slice());
+        assert!(rt; words.as_slice() == bytes_of(rt.alloc(), frame)?.as_slice());
     }
     Ok(())
 }
@@ -237,9 +239,9 @@ fn the_counter_is_0_again_after_65536_frames(rt: HostRuntime) -> Result<(), Allo
         let _ = carrier.words(&silence());
     }
     let words = carrier.words(&silence());
-    assert_eq!(rt; words.as_slice(), bytes_of(alloc, highest)?.as_slice());
+    assert!(rt; words.as_slice() == bytes_of(alloc, highest)?.as_slice());
     let words = carrier.words(&silence());
-    assert_eq!(rt; words.as_slice(), bytes_of(alloc, FIRST)?.as_slice());
+    assert!(rt; words.as_slice() == bytes_of(alloc, FIRST)?.as_slice());
     Ok(())
 }
 
@@ -248,15 +250,14 @@ fn the_counter_is_0_again_after_65536_frames(rt: HostRuntime) -> Result<(), Allo
 fn a_frame_of_one_field_has_one_pair(rt: HostRuntime) {
     let even = frame_of(Some(RESUME_1), None);
     let triplets = Carrier::new(Rate::F5994).triplets(&even);
-    assert_eq!(rt; triplets.len(), 10);
+    assert!(rt; triplets.len() == 10);
     let valid = triplets.as_slice().iter().filter(|t| t.valid).count();
-    assert_eq!(rt; valid, 1);
+    assert!(rt; valid == 1);
     let words = Carrier::new(Rate::F5994).words(&even);
     // the flag, DID, SDID and the count, then the packet's identifier, length, rate, flags and counter, and its section's head
     let front: [u8; 26] = [
         0x00, 0x00, 0x03, 0xFF, 0x03, 0xFF, 0x01, 0x61, 0x01, 0x01, 0x02, 0x2B, 0x02, 0x96, 0x02,
         0x69, 0x02, 0x2B, 0x01, 0x7F, 0x01, 0x43, 0x02, 0x00, 0x02, 0x00,
     ];
-    assert_eq!(rt; words.len(), 100);
-    assert!(rt; words.as_slice().starts_with(&front));
+    assert!(rt; words.len() == 100 && words.as_slice().starts_with(&front));
 }

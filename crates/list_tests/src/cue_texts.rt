@@ -15,13 +15,11 @@ fn shows(rt: &impl Abort, alloc: Global, text: &[u8], row: u8, col: u8, chars: &
     assert!(rt; text.len() <= 1000);
     match parse(alloc, text) {
         Ok(list) => {
-            assert_eq!(rt; list.cues().len(), 1);
+            assert!(rt; list.cues().len() == 1);
             let cue = &list.cues()[0];
-            assert_eq!(rt; cue.runs.as_slice().len(), 1);
+            assert!(rt; cue.runs.as_slice().len() == 1);
             let run = &cue.runs.as_slice()[0];
-            assert_eq!(rt; run.row, row);
-            assert_eq!(rt; run.col, col);
-            assert_eq!(rt; run.text.as_slice(), chars);
+            assert!(rt; run.row == row && run.col == col && run.text.as_slice() == chars);
         }
         Err(_) => panic!(rt; "the list has a fault"),
     }
@@ -33,44 +31,48 @@ fn one_pop_on_cue_is_read(rt: HostRuntime) -> Result<(), Fail> {
         rt.alloc(),
         b"ccsuite,1,29.97,300\npop,CC1,10,60,120\nrun,15,4,white,HELLO\n",
     )?;
-    assert_eq!(rt; list.rate(), Rate::F2997);
-    assert_eq!(rt; list.frames(), 300);
-    assert_eq!(rt; list.share(1), None);
-    assert_eq!(rt; list.cues().len(), 1);
+    assert!(rt;
+        list.rate() == Rate::F2997
+            && list.frames() == 300
+            && list.share(1).is_none()
+            && list.cues().len() == 1
+    );
     let cue = &list.cues()[0];
-    assert_eq!(rt; cue.load, 10);
-    assert_eq!(rt; cue.show, 60);
-    assert_eq!(rt; cue.hide, Some(120));
-    assert_eq!(rt; cue.kind, Kind::Pop(Chan::Cc1));
-    assert_eq!(rt; cue.runs.as_slice().len(), 1);
+    assert!(rt;
+        cue.load == 10
+            && cue.show == 60
+            && cue.hide == Some(120)
+            && cue.kind == Kind::Pop(Chan::Cc1)
+            && cue.runs.as_slice().len() == 1
+    );
     let run = &cue.runs.as_slice()[0];
-    assert_eq!(rt; run.row, 15);
-    assert_eq!(rt; run.col, 4);
+    assert!(rt; run.row == 15 && run.col == 4);
     let white = Style {
         colour: Colour::White,
         italic: false,
         underline: false,
     };
-    assert_eq!(rt; run.pen, Pen::Line21(white));
-    assert_eq!(rt; run.text.as_slice(), ['H', 'E', 'L', 'L', 'O'].as_slice());
+    assert!(rt;
+        run.pen == Pen::Line21(white) && run.text.as_slice() == ['H', 'E', 'L', 'L', 'O'].as_slice()
+    );
     Ok(())
 }
 
 #[test]
 fn numbers_at_their_ends_are_read(rt: HostRuntime) -> Result<(), Fail> {
     let least = parse(rt.alloc(), b"ccsuite,1,30,1\n")?;
-    assert_eq!(rt; least.rate(), Rate::F30);
-    assert_eq!(rt; least.frames(), 1);
-    assert_eq!(rt; least.cues().len(), 0);
+    assert!(rt; least.rate() == Rate::F30 && least.frames() == 1 && least.cues().len() == 0);
     let most = parse(
         rt.alloc(),
         b"ccsuite,1,30,1000000\npop,CC1,0,4294967294,4294967295\nrun,1,0,white,A\n",
     )?;
-    assert_eq!(rt; most.frames(), 1_000_000);
-    assert_eq!(rt; most.cues().len(), 1);
-    assert_eq!(rt; most.cues()[0].load, 0);
-    assert_eq!(rt; most.cues()[0].show, 4_294_967_294);
-    assert_eq!(rt; most.cues()[0].hide, Some(4_294_967_295));
+    assert!(rt;
+        most.frames() == 1_000_000
+            && most.cues().len() == 1
+            && most.cues()[0].load == 0
+            && most.cues()[0].show == 4_294_967_294
+            && most.cues()[0].hide == Some(4_294_967_295)
+    );
     Ok(())
 }
 
@@ -83,7 +85,7 @@ fn more_than_a_million_frames_pass_the_limit(rt: HostRuntime) {
     ] {
         assert!(rt; text.len() <= 1000);
         match parse(rt.alloc(), text.as_bytes()) {
-            Err(CueFault::Limit(found)) => assert_eq!(rt; found, LimitOf::Frames),
+            Err(CueFault::Limit(found)) => assert!(rt; found == LimitOf::Frames),
             _ => panic!(rt; "no limit"),
         }
     }

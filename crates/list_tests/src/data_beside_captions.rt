@@ -44,7 +44,7 @@ fn shows(
             Some(pair) => (u16::from(pair.a) << 8) | u16::from(pair.b),
             None => 0,
         };
-        assert_eq!(rt; sent, *pair, "frame {frame} of {cues:?}");
+        assert!(rt; sent == *pair, "frame {frame} of {cues:?}");
     }
     assert!(rt; frames.next().is_none());
     Ok(())
@@ -105,7 +105,7 @@ fn the_first_packet_without_room_is_told(rt: HostRuntime) -> Result<(), Fail> {
         ),
     ] {
         match planned(&rt, rt.alloc(), cues, packets)? {
-            Err(XdsPlanFault::NoXdsRoom(lacking)) => assert_eq!(rt; lacking, packet, "{cues:?}"),
+            Err(XdsPlanFault::NoXdsRoom(lacking)) => assert!(rt; lacking == packet, "{cues:?}"),
             _ => panic!(rt; "a packet lacks room"),
         }
     }
@@ -116,7 +116,7 @@ fn the_first_packet_without_room_is_told(rt: HostRuntime) -> Result<(), Fail> {
 fn a_cue_without_room_comes_first(rt: HostRuntime) -> Result<(), Fail> {
     let crowded = "ccsuite,1,29.97,30\npop,CC3,0,6,20\nrun,15,0,white,HI\n";
     match planned(&rt, rt.alloc(), crowded, "xds,29,1,1,A\n")? {
-        Err(XdsPlanFault::NoRoom(cue)) => assert_eq!(rt; cue, 1),
+        Err(XdsPlanFault::NoRoom(cue)) => assert!(rt; cue == 1),
         _ => panic!(rt; "the cue lacks room"),
     }
     Ok(())

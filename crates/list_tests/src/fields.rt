@@ -68,7 +68,7 @@ fn gives(rt: &impl Abort, lane: &mut PlacedField, pairs: &[Pair])
     ensures { lane.new.slot ≡ lane.old.slot + length pairs.now }
 {
     for pair in pairs {
-        assert_eq!(rt; lane.next(), *pair);
+        assert!(rt; lane.next() == *pair);
     }
 }
 

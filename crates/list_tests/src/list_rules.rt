@@ -24,7 +24,7 @@ fn judged(
             Some((why, cue, other)) => Err(RuleFault { why, cue, other }),
             None => Ok(()),
         };
-        assert_eq!(rt; check(&list), answer, "{records}");
+        assert!(rt; check(&list) == answer, "{records}");
     }
     Ok(())
 }

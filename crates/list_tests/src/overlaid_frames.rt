@@ -56,8 +56,7 @@ fn pairs_are_laid_over_the_frames_of_another_and_end_with_them(
         let Some(bytes) = frames.next() else {
             return Err(Fail::from("a frame is left"));
         };
-        assert_eq!(rt; bytes.one, Some(NULL));
-        assert_eq!(rt; bytes.two, Some(Pair { a: 0x15, b: mark }));
+        assert!(rt; bytes.one == Some(NULL) && bytes.two == Some(Pair { a: 0x15, b: mark }));
     }
     assert!(rt; frames.next().is_none());
     Ok(())

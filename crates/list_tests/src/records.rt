@@ -25,7 +25,7 @@ fn numbers_are_their_decimal_digits(rt: HostRuntime) {
         ("10000000000", None),
     ];
     for &(text, number) in TEXTS {
-        assert_eq!(rt; read_number(text.as_bytes()), number);
+        assert!(rt; read_number(text.as_bytes()) == number);
     }
 }
 
@@ -39,7 +39,7 @@ fn ranges_have_both_their_ends(rt: HostRuntime) {
         ("8", None),
         ("", None),
     ] {
-        assert_eq!(rt; read_within(1, 7, text.as_bytes()), number);
+        assert!(rt; read_within(1, 7, text.as_bytes()) == number);
     }
 }
 
@@ -54,9 +54,9 @@ fn records_of_another_length_offend_at_their_end(rt: HostRuntime) {
         (4, 0, 1),
         (15, 14, 15),
     ] {
-        assert_eq!(rt; count_place(count, given), place);
         assert!(rt;
-            matches!(out_of_form(place), Offence::At { field: at, why: Why::Field } if at == place)
+            count_place(count, given) == place
+                && matches!(out_of_form(place), Offence::At { field: at, why: Why::Field } if at == place)
         );
     }
 }
@@ -73,8 +73,9 @@ fn fields_of_records_are_taken_by_their_places(rt: HostRuntime) {
     for fields in [["xds", "", "7", ""], ["a,b", "", "", ""]] {
         assert!(rt; matches!(reader.read_byte_record(&mut row), Ok(true)));
         for place in 0..4 {
-            assert!(rt; is_word(field(&row, place), fields[place]));
-            assert!(rt; !is_word(field(&row, place), "xd"));
+            assert!(rt;
+                is_word(field(&row, place), fields[place]) && !is_word(field(&row, place), "xd")
+            );
         }
     }
     assert!(rt; matches!(reader.read_byte_record(&mut row), Ok(false)));

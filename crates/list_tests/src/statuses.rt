@@ -40,6 +40,6 @@ fn each_status_has_its_code(rt: HostRuntime) {
         (Status::NoXdsRoom(1), 12),
         (Status::Misfit(RATE_OF_25), 13),
     ] {
-        assert_eq!(rt; status.code(), code);
+        assert!(rt; status.code() == code);
     }
 }

@@ -92,8 +92,7 @@ fn second_pairs_stand_in_null_slots(rt: HostRuntime) -> Result<(), Fail> {
         let Some(bytes) = frames.next() else {
             return Err(Fail::from("a frame is left"));
         };
-        assert_eq!(rt; bytes.one, Some(one));
-        assert_eq!(rt; bytes.two, Some(two));
+        assert!(rt; bytes.one == Some(one) && bytes.two == Some(two));
     }
     assert!(rt; frames.next().is_none());
     Ok(())
@@ -148,9 +147,9 @@ fn a_caption_goes_on_behind_its_first_unit(rt: HostRuntime) -> Result<(), Fail> 
         doubled: false,
     };
     let expected = [(RCL, 0), (ENM, 2), (ROW_15, 4), (RCL, 8), (text, 11)];
-    assert_eq!(rt; units.len(), expected.len());
+    assert!(rt; units.len() == expected.len());
     for (placed, (unit, slot)) in units.iter().zip(expected) {
-        assert_eq!(rt; *placed, PlacedUnit { unit, slot });
+        assert!(rt; *placed == PlacedUnit { unit, slot });
     }
     Ok(())
 }

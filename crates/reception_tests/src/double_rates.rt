@@ -403,18 +403,16 @@ fn a_frame_becomes_two_or_has_its_first_misfit(rt: HostRuntime) -> Result<(), Al
     for (place, (rate, sections, want)) in CASES.iter().enumerate() {
         let mut converter = Converter::new(alloc)?;
         let words = words_of(alloc, *rate, 0x1234, sections)?;
-        assert_eq!(rt;
-            feed_packet(&mut converter, words.as_slice()),
-            Some(Ended::Caption),
+        assert!(rt;
+            feed_packet(&mut converter, words.as_slice()) == Some(Ended::Caption),
             "case {place}"
         );
         match want {
             Ok((first, second)) => {
                 let halves = halves_of(alloc, 0, first, second)?;
-                assert_eq!(rt; converter.misfit(), None, "case {place}");
-                assert_eq!(rt;
-                    words_now(alloc, &converter)?.as_slice(),
-                    halves.as_slice(),
+                assert!(rt; converter.misfit().is_none(), "case {place}");
+                assert!(rt;
+                    words_now(alloc, &converter)?.as_slice() == halves.as_slice(),
                     "case {place}"
                 );
             }
@@ -423,7 +421,7 @@ fn a_frame_becomes_two_or_has_its_first_misfit(rt: HostRuntime) -> Result<(), Al
                     frame: 0,
                     kind: *kind,
                 };
-                assert_eq!(rt; converter.misfit(), Some(misfit), "case {place}");
+                assert!(rt; converter.misfit() == Some(misfit), "case {place}");
             }
         }
         assert!(rt; converter.finish().is_ok());
@@ -488,9 +486,9 @@ fn a_delay_that_ends_half_a_frame_early_changes_what_is_seen(
     });
     for (tenths, front, behind) in [(10, None, None), (166, None, None), (167, changed, None)] {
         let seen = first_misfit(rt.alloc(), &[&delayed(tenths)], 503)?;
-        assert_eq!(rt; seen, front, "{tenths} tenths, in a first half");
+        assert!(rt; seen == front, "{tenths} tenths, in a first half");
         let seen = first_misfit(rt.alloc(), &[&delayed_behind(tenths)], 503)?;
-        assert_eq!(rt; seen, behind, "{tenths} tenths, in a second half");
+        assert!(rt; seen == behind, "{tenths} tenths, in a second half");
     }
     Ok(())
 }
@@ -513,9 +511,9 @@ fn a_change_is_told_where_no_other_misfit_is(rt: HostRuntime) -> Result<(), Allo
         let last = words_of(alloc, AT_2997, 0, &[(triplets, count)])?;
         feed_packet(&mut converter, begun.as_slice());
         feed_times(&mut converter, nothing.as_slice(), 499);
-        assert_eq!(rt; converter.misfit(), None);
+        assert!(rt; converter.misfit().is_none());
         feed_packet(&mut converter, last.as_slice());
-        assert_eq!(rt; converter.misfit(), Some(Misfit { frame: 500, kind }));
+        assert!(rt; converter.misfit() == Some(Misfit { frame: 500, kind }));
     }
     Ok(())
 }
@@ -568,8 +566,8 @@ fn the_first_service_that_changes_is_named(rt: HostRuntime) -> Result<(), AllocE
             frame,
             kind: MisfitKind::Changed(Which::Service(service)),
         };
-        assert_eq!(rt; first_misfit(rt.alloc(), sent, 600)?, Some(misfit));
-        assert_eq!(rt; first_misfit(rt.alloc(), sent, 500)?, None);
+        assert!(rt; first_misfit(rt.alloc(), sent, 600)? == Some(misfit));
+        assert!(rt; first_misfit(rt.alloc(), sent, 500)?.is_none());
     }
     Ok(())
 }
@@ -579,19 +577,16 @@ fn the_first_service_that_changes_is_named(rt: HostRuntime) -> Result<(), AllocE
 fn halves_are_numbered_by_their_frames(rt: HostRuntime) -> Result<(), AllocError> {
     let alloc = rt.alloc();
     let mut converter = Converter::new(alloc)?;
-    assert_eq!(rt; converter.misfit(), None);
+    assert!(rt; converter.misfit().is_none());
     let frame = words_of(alloc, AT_2997, 0xFFFF, &[(&[ONE, TWO], 20)])?;
     let foreign = packet(alloc, 0x62, &[0x01, 0x02, 0x03])?;
     for (times, counter) in [(1, 0), (1, 2), (126, 254), (1, 256)] {
         feed_times(&mut converter, frame.as_slice(), times);
-        assert_eq!(rt;
-            feed_packet(&mut converter, foreign.as_slice()),
-            Some(Ended::Foreign)
-        );
+        assert!(rt; feed_packet(&mut converter, foreign.as_slice()) == Some(Ended::Foreign));
         let halves = halves_of(alloc, counter, &[ONE], &[TWO])?;
-        assert_eq!(rt; words_now(alloc, &converter)?.as_slice(), halves.as_slice());
+        assert!(rt; words_now(alloc, &converter)?.as_slice() == halves.as_slice());
     }
-    assert_eq!(rt; converter.frames(), 129);
+    assert!(rt; converter.frames() == 129);
     assert!(rt; converter.finish().is_ok());
     Ok(())
 }

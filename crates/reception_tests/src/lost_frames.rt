@@ -485,7 +485,7 @@ fn lost_frames_are_told_and_what_came_before_is_forgotten(
     ];
     for &(came, sent, want) in CASES {
         let text = told(rt.alloc(), came, sent)?;
-        assert_eq!(rt; text.as_str(), want);
+        assert!(rt; text.as_str() == want);
     }
     Ok(())
 }
@@ -588,7 +588,7 @@ fn bad_parity_is_concealed_and_gaps_reset(rt: HostRuntime) -> Result<(), AllocEr
     ];
     for &(came, sent, want) in CASES {
         let text = told(rt.alloc(), came, sent)?;
-        assert_eq!(rt; text.as_str(), want);
+        assert!(rt; text.as_str() == want);
     }
     Ok(())
 }

@@ -5,7 +5,7 @@ use text_output::Gathered;
 use words_reading::{Judge, Reason, Stop, read_words};
 
 /// The mark at which the letters stop.
-#[derive(Clone, Copy, Debug, PartialEq, Eq)]
+#[derive(Clone, Copy, PartialEq, Eq)]
 struct Mark;
 
 impl Reason for Mark {
@@ -20,7 +20,7 @@ impl Reason for Mark {
 }
 
 /// Letters, of which each is put; `?` is refused, `!` is a mark, and they may end behind a full stop.
-#[derive(Clone, Copy, Debug)]
+#[derive(Clone, Copy)]
 struct Letters {
     last: u8,
 }
@@ -102,11 +102,8 @@ fn what_came_before_a_stop_is_put(rt: HostRuntime) -> Result<(), Fail> {
         let bytes = letters.as_bytes().to_vec(alloc)?;
         let mut input = MemorySource::new(bytes, [3].to_vec(alloc)?, takes.to_vec(alloc)?);
         let mut out = MemorySink::new(alloc, 100, puts.to_vec(alloc)?)?;
-        assert_eq!(rt;
-            read_words(&mut Letters { last: 0 }, &mut input, &mut out),
-            ended
-        );
-        assert_eq!(rt; out.bytes(), put.as_bytes());
+        assert!(rt; read_words(&mut Letters { last: 0 }, &mut input, &mut out) == ended);
+        assert!(rt; out.bytes() == put.as_bytes());
     }
     Ok(())
 }

@@ -126,21 +126,24 @@ fn a_frame_without_captions_is_received(rt: HostRuntime) -> Result<(), AllocErro
     let bytes = file_of(rt.alloc(), &[SILENT])?;
     for size in SIZES {
         let (receiver, answer) = fed(rt.alloc(), bytes.as_slice(), size)?;
-        assert_eq!(rt;
-            (answer, receiver.finish()),
-            (Ok(()), Ok(())),
+        assert!(rt;
+            (answer, receiver.finish()) == (Ok(()), Ok(())),
             "size {size}"
         );
-        assert_eq!(rt; receiver.frames(), 1, "size {size}");
-        assert_eq!(rt; receiver.rate(), Rate::F2997);
-        assert_eq!(rt; (receiver.flags(), receiver.counter()), (0x43, 0));
-        assert_eq!(rt; receiver.triplet_count(), 20);
-        assert_eq!(rt; receiver.triplets().len(), 20);
-        assert_eq!(rt; receiver.sections().len(), 62);
+        assert!(rt; receiver.frames() == 1, "size {size}");
+        assert!(rt;
+            receiver.rate() == Rate::F2997
+                && (receiver.flags(), receiver.counter()) == (0x43, 0)
+                && receiver.triplet_count() == 20
+        );
+        assert!(rt; receiver.triplets().len() == 20);
+        assert!(rt; receiver.sections().len() == 62);
         let head = [0x72, 0xF4, 0xFC, 0x80, 0x80, 0xFD, 0x80, 0x80, 0xFA];
-        assert_eq!(rt; receiver.sections().get(..9), Some(&head[..]));
-        assert_eq!(rt; receiver.pairs_one(), &[Pair { a: 0x80, b: 0x80 }][..]);
-        assert_eq!(rt; receiver.is_idle(), true);
+        assert!(rt;
+            receiver.sections().get(..9) == Some(&head[..])
+                && receiver.pairs_one() == &[Pair { a: 0x80, b: 0x80 }][..]
+                && receiver.is_idle()
+        );
     }
     Ok(())
 }
@@ -149,17 +152,17 @@ fn a_frame_without_captions_is_received(rt: HostRuntime) -> Result<(), AllocErro
 fn bytes_may_end_behind_a_packet_alone(rt: HostRuntime) -> Result<(), AllocError> {
     let bytes = file_of(rt.alloc(), &[SILENT])?;
     let (receiver, _) = fed(rt.alloc(), &[], 1)?;
-    assert_eq!(rt; (receiver.frames(), receiver.finish()), (0, Ok(())));
+    assert!(rt; (receiver.frames(), receiver.finish()) == (0, Ok(())));
     for cut in 1..bytes.len() {
         let (receiver, answer) = fed(rt.alloc(), &bytes.as_slice()[..cut], 7)?;
-        assert_eq!(rt; (receiver.frames(), answer), (0, Ok(())));
-        assert_eq!(rt; receiver.finish(), refusal(cut as u64, Why::Truncated));
+        assert!(rt; (receiver.frames(), answer) == (0, Ok(())));
+        assert!(rt; receiver.finish() == refusal(cut as u64, Why::Truncated));
     }
     let mut longer = file_of(rt.alloc(), &[SILENT])?;
     longer.push(0xFF)?;
     let (receiver, answer) = fed(rt.alloc(), longer.as_slice(), 159)?;
-    assert_eq!(rt; (receiver.frames(), answer), (1, Ok(())));
-    assert_eq!(rt; receiver.finish(), refusal(161, Why::Truncated));
+    assert!(rt; (receiver.frames(), answer) == (1, Ok(())));
+    assert!(rt; receiver.finish() == refusal(161, Why::Truncated));
     Ok(())
 }
 
@@ -198,10 +201,10 @@ fn refusals_have_the_first_byte_of_their_word(rt: HostRuntime) -> Result<(), All
         let changed = with_word(rt.alloc(), bytes.as_slice(), at, word)?;
         for size in SIZES {
             let (mut receiver, answer) = fed(rt.alloc(), changed.as_slice(), size)?;
-            assert_eq!(rt; answer, want, "word {at}, size {size}");
-            assert_eq!(rt; receiver.finish(), want, "word {at}, size {size}");
-            assert_eq!(rt; receiver.frames(), 0, "word {at}, size {size}");
-            assert_eq!(rt; receiver.feed(&[]).is_err(), true, "word {at}, size {size}");
+            assert!(rt; answer == want, "word {at}, size {size}");
+            assert!(rt; receiver.finish() == want, "word {at}, size {size}");
+            assert!(rt; receiver.frames() == 0, "word {at}, size {size}");
+            assert!(rt; receiver.feed(&[]).is_err(), "word {at}, size {size}");
         }
     }
     Ok(())
@@ -234,9 +237,9 @@ fn a_header_that_passes_its_packet_is_refused(rt: HostRuntime) -> Result<(), All
         for size in SIZES {
             let (receiver, answer) = fed(rt.alloc(), bytes.as_slice(), size)?;
             let want = refusal(place, Why::Overrun);
-            assert_eq!(rt; answer, want, "place {place}, size {size}");
-            assert_eq!(rt; receiver.finish(), want, "place {place}, size {size}");
-            assert_eq!(rt; receiver.frames(), 0, "place {place}, size {size}");
+            assert!(rt; answer == want, "place {place}, size {size}");
+            assert!(rt; receiver.finish() == want, "place {place}, size {size}");
+            assert!(rt; receiver.frames() == 0, "place {place}, size {size}");
         }
     }
     Ok(())
@@ -256,13 +259,14 @@ fn other_packets_change_nothing(rt: HostRuntime) -> Result<(), AllocError> {
     let bytes = with_a_foreign_packet(rt.alloc())?;
     for size in SIZES {
         let (receiver, answer) = fed(rt.alloc(), bytes.as_slice(), size)?;
-        assert_eq!(rt;
-            (answer, receiver.finish()),
-            (Ok(()), Ok(())),
+        assert!(rt;
+            (answer, receiver.finish()) == (Ok(()), Ok(())),
             "size {size}"
         );
-        assert_eq!(rt; receiver.frames(), 3, "size {size}");
-        assert_eq!(rt; receiver.counter(), 2, "size {size}");
+        assert!(rt;
+            receiver.frames() == 3 && receiver.counter() == 2,
+            "size {size}"
+        );
     }
     Ok(())
 }
@@ -273,9 +277,12 @@ fn words_of_other_packets_are_refused(rt: HostRuntime) -> Result<(), AllocError>
     let changed = with_word(rt.alloc(), bytes.as_slice(), 84, 0x0202)?;
     for size in SIZES {
         let (receiver, answer) = fed(rt.alloc(), changed.as_slice(), size)?;
-        assert_eq!(rt; answer, refusal(168, Why::WordParity), "size {size}");
-        assert_eq!(rt; receiver.frames(), 1, "size {size}");
-        assert_eq!(rt; receiver.counter(), 0, "size {size}");
+        assert!(rt;
+            answer == refusal(168, Why::WordParity)
+                && receiver.frames() == 1
+                && receiver.counter() == 0,
+            "size {size}"
+        );
     }
     Ok(())
 }
@@ -338,10 +345,9 @@ fn a_call_stops_behind_each_packet(rt: HostRuntime) -> Result<(), AllocError> {
     ] {
         let piece = bytes.as_slice().get(from..to).unwrap_or(&[]);
         assert!(rt; receiver.frames() < 3);
-        assert_eq!(rt; receiver.feed(piece), Ok(want), "from {from} to {to}");
+        assert!(rt; receiver.feed(piece) == Ok(want), "from {from} to {to}");
     }
-    assert_eq!(rt; receiver.frames(), 2);
-    assert_eq!(rt; receiver.counter(), 1);
+    assert!(rt; receiver.frames() == 2 && receiver.counter() == 1);
     Ok(())
 }
 
@@ -396,37 +402,38 @@ fn the_screen_is_that_of_the_last_whole_frame(rt: HostRuntime) -> Result<(), All
                 bytes.as_slice().get(..cut).unwrap_or(&[]),
                 size,
             )?;
-            assert_eq!(rt; answer, Ok(()), "cut {cut}, size {size}");
+            assert!(rt; answer == Ok(()), "cut {cut}, size {size}");
             assert!(rt; receiver.frames() > 0);
-            assert_eq!(rt; receiver.is_idle(), false, "cut {cut}, size {size}");
-            assert_eq!(rt;
-                receiver.cell(Chan::Cc1, 15, 0),
-                h,
+            assert!(rt; !receiver.is_idle(), "cut {cut}, size {size}");
+            assert!(rt;
+                receiver.cell(Chan::Cc1, 15, 0) == h,
                 "cut {cut}, size {size}"
             );
-            assert_eq!(rt;
-                receiver.cell(Chan::Cc1, 15, 1),
-                i,
+            assert!(rt;
+                receiver.cell(Chan::Cc1, 15, 1) == i,
                 "cut {cut}, size {size}"
             );
-            assert_eq!(rt;
-                receiver.cell(Chan::Cc2, 15, 0),
-                None,
+            assert!(rt;
+                receiver.cell(Chan::Cc2, 15, 0).is_none(),
                 "cut {cut}, size {size}"
             );
-            assert_eq!(rt;
-                receiver.cell(Chan::Cc3, 15, 0),
-                None,
+            assert!(rt;
+                receiver.cell(Chan::Cc3, 15, 0).is_none(),
                 "cut {cut}, size {size}"
             );
         }
         // with another checksum word the third frame doesn't act
         let changed = with_word(rt.alloc(), bytes.as_slice(), 239, 0x1AA)?;
         let (receiver, answer) = fed(rt.alloc(), changed.as_slice(), size)?;
-        assert_eq!(rt; answer, refusal(478, Why::AncSum), "size {size}");
-        assert_eq!(rt; receiver.cell(Chan::Cc1, 15, 0), white('H'), "size {size}");
-        assert_eq!(rt; receiver.frames(), 2, "size {size}");
-        assert_eq!(rt; receiver.counter(), 1, "size {size}");
+        assert!(rt; answer == refusal(478, Why::AncSum), "size {size}");
+        assert!(rt;
+            receiver.cell(Chan::Cc1, 15, 0) == white('H'),
+            "size {size}"
+        );
+        assert!(rt;
+            receiver.frames() == 2 && receiver.counter() == 1,
+            "size {size}"
+        );
     }
     Ok(())
 }

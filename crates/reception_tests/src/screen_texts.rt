@@ -121,17 +121,14 @@ fn all_of(alloc: Global, frame: u32, one: &[u16], two: &[u16]) -> Result<MemoryS
 #[test]
 fn show_prints_hi(rt: HostRuntime) -> Result<(), AllocError> {
     let shown = all_of(rt.alloc(), 7, &[0x9429, 0x9470, 0xC849], &[])?;
-    assert_eq!(rt;
-        shown.bytes(),
-        b"frame 7\nCC1 1\n15 0 white HI\n".as_slice()
-    );
+    assert!(rt; shown.bytes() == b"frame 7\nCC1 1\n15 0 white HI\n".as_slice());
     Ok(())
 }
 
 #[test]
 fn show_of_an_empty_screen_is_the_frame_line(rt: HostRuntime) -> Result<(), AllocError> {
     let shown = all_of(rt.alloc(), 4_294_967_295, &[], &[])?;
-    assert_eq!(rt; shown.bytes(), b"frame 4294967295\n".as_slice());
+    assert!(rt; shown.bytes() == b"frame 4294967295\n".as_slice());
     Ok(())
 }
 
@@ -144,10 +141,7 @@ fn each_style_of_a_row_is_a_run(rt: HostRuntime) -> Result<(), AllocError> {
         &[0x9429, 0x9470, 0xC180, 0x912A, 0xC280],
         &[],
     )?;
-    assert_eq!(rt;
-        shown.bytes(),
-        b"frame 0\nCC1 2\n15 0 white A\n15 1 yellow  B\n".as_slice()
-    );
+    assert!(rt; shown.bytes() == b"frame 0\nCC1 2\n15 0 white A\n15 1 yellow  B\n".as_slice());
     Ok(())
 }
 
@@ -156,9 +150,8 @@ fn a_gap_parts_runs(rt: HostRuntime) -> Result<(), AllocError> {
     // A, a tab of three columns, B and C; and in the row above, from column 4 on, D.
     let pairs = [0x9429, 0x9470, 0xC180, 0x9723, 0xC243, 0x9452, 0xC480];
     let shown = all_of(rt.alloc(), 0, &pairs, &[])?;
-    assert_eq!(rt;
-        shown.bytes(),
-        b"frame 0\nCC1 3\n14 4 white D\n15 0 white A\n15 4 white BC\n".as_slice()
+    assert!(rt;
+        shown.bytes() == b"frame 0\nCC1 3\n14 4 white D\n15 0 white A\n15 4 white BC\n".as_slice()
     );
     Ok(())
 }
@@ -180,7 +173,7 @@ fn pens_are_named(rt: HostRuntime) -> Result<(), AllocError> {
     ];
     for &(preamble, text) in PENS {
         let shown = all_of(rt.alloc(), 0, &[0x9429, preamble, 0xC180], &[])?;
-        assert_eq!(rt; shown.bytes(), text);
+        assert!(rt; shown.bytes() == text);
     }
     Ok(())
 }
@@ -194,10 +187,7 @@ fn characters_are_put_in_utf_8(rt: HostRuntime) -> Result<(), AllocError> {
         &[0x9429, 0x9470, 0x2A80, 0x9137, 0xC180],
         &[],
     )?;
-    assert_eq!(rt;
-        shown.bytes(),
-        b"frame 0\nCC1 1\n15 0 white \xC3\xA1\xE2\x99\xAAA\n".as_slice()
-    );
+    assert!(rt; shown.bytes() == b"frame 0\nCC1 1\n15 0 white \xC3\xA1\xE2\x99\xAAA\n".as_slice());
     Ok(())
 }
 
@@ -211,10 +201,10 @@ fn channels_stand_in_their_order(rt: HostRuntime) -> Result<(), AllocError> {
     let shown = all_of(rt.alloc(), 12, FIELD_1, FIELD_2)?;
     let text =
         b"frame 12\nCC1 1\n15 0 white A\nCC2 1\n15 0 white B\nCC3 1\n15 0 white C\nCC4 1\n15 0 white D\n";
-    assert_eq!(rt; shown.bytes(), text.as_slice());
+    assert!(rt; shown.bytes() == text.as_slice());
     let second = all_of(rt.alloc(), 12, &[], FIELD_2)?;
     let text = b"frame 12\nCC3 1\n15 0 white C\nCC4 1\n15 0 white D\n";
-    assert_eq!(rt; second.bytes(), text.as_slice());
+    assert!(rt; second.bytes() == text.as_slice());
     Ok(())
 }
 
@@ -251,11 +241,8 @@ fn changes_are_told_frame_by_frame(rt: HostRuntime) -> Result<(), AllocError> {
     for (frame, (one, two, text)) in frames.iter().enumerate() {
         assert!(rt; feed_frame(alloc, &mut receiver, frame as u16, one, two)?);
         let mut sink = MemorySink::new(alloc, 1000, Vec::new(alloc))?;
-        assert_eq!(rt;
-            put.put_changes(&receiver, frame as u32, &mut sink),
-            Put::Done
-        );
-        assert_eq!(rt; sink.bytes(), *text, "frame {frame}");
+        assert!(rt; put.put_changes(&receiver, frame as u32, &mut sink) == Put::Done);
+        assert!(rt; sink.bytes() == *text, "frame {frame}");
     }
     Ok(())
 }
@@ -266,9 +253,9 @@ fn failing_sink_is_told(rt: HostRuntime) -> Result<(), AllocError> {
     let mut receiver = Receiver::new(alloc)?;
     assert!(rt; feed_frame(alloc, &mut receiver, 0, FIELD_1, &[])?);
     let mut sink = MemorySink::new(alloc, 10, Vec::new(alloc))?;
-    assert_eq!(rt; put_all(&receiver, 0, &mut sink), Put::Failed);
+    assert!(rt; put_all(&receiver, 0, &mut sink) == Put::Failed);
     let mut shown = Shown::new(alloc)?;
-    assert_eq!(rt; shown.put_changes(&receiver, 0, &mut sink), Put::Failed);
+    assert!(rt; shown.put_changes(&receiver, 0, &mut sink) == Put::Failed);
     Ok(())
 }
 
@@ -292,15 +279,16 @@ fn a_run_in_each_cell_has_room(rt: HostRuntime) -> Result<(), AllocError> {
     }
     let mut shown = Shown::new(alloc)?;
     let mut sink = MemorySink::new(alloc, 50_000, Vec::new(alloc))?;
-    assert_eq!(rt; shown.put_changes(&receiver, 9, &mut sink), Put::Done);
+    assert!(rt; shown.put_changes(&receiver, 9, &mut sink) == Put::Done);
     let head = b"frame 9\nCC1 480\n1 0 magenta  \n1 1 magenta-u  \n1 2 magenta  \n";
-    assert!(rt; sink.bytes().starts_with(head));
     assert!(rt;
-        sink.bytes()
-            .ends_with(b"\n15 30 magenta  \n15 31 magenta-u  \n")
+        sink.bytes().starts_with(head)
+            && sink
+                .bytes()
+                .ends_with(b"\n15 30 magenta  \n15 31 magenta-u  \n")
     );
     // A row has 470 characters besides its number, which stands there 32 times.
-    assert_eq!(rt; sink.bytes().len(), 8 + 8 + 15 * 470 + 9 * 32 + 6 * 64);
+    assert!(rt; sink.bytes().len() == 8 + 8 + 15 * 470 + 9 * 32 + 6 * 64);
     Ok(())
 }
 
@@ -359,15 +347,14 @@ fn services_stand_behind_channels_in_their_order(rt: HostRuntime) -> Result<(), 
     };
     assert!(rt; feed(alloc, &mut receiver, 0, brings)?);
     let mut all = MemorySink::new(alloc, 1000, Vec::new(alloc))?;
-    assert_eq!(rt; put_all(&receiver, 5, &mut all), Put::Done);
+    assert!(rt; put_all(&receiver, 5, &mut all) == Put::Done);
     let mut shown = Shown::new(alloc)?;
     let mut changes = MemorySink::new(alloc, 1000, Vec::new(alloc))?;
-    assert_eq!(rt; shown.put_changes(&receiver, 5, &mut changes), Put::Done);
+    assert!(rt; shown.put_changes(&receiver, 5, &mut changes) == Put::Done);
     let text = format!(in alloc;
         "frame 5\nCC1 1\n15 0 white A\nS1 1\n{WINDOW} 1\n0 0 1 0 0 1 0 0 0 0222 0000 000 HO\nS2 1\n{WINDOW} 1\n0 0 1 0 0 1 0 0 0 0222 0000 000 HI\n"
     )?;
-    assert_eq!(rt; all.bytes(), text.as_bytes());
-    assert_eq!(rt; changes.bytes(), text.as_bytes());
+    assert!(rt; all.bytes() == text.as_bytes() && changes.bytes() == text.as_bytes());
     Ok(())
 }
 
@@ -399,12 +386,9 @@ fn windows_that_change_are_told_frame_by_frame(rt: HostRuntime) -> Result<(), Al
         };
         assert!(rt; feed(alloc, &mut receiver, frame as u16, brings)?);
         let mut sink = MemorySink::new(alloc, 1000, Vec::new(alloc))?;
-        assert_eq!(rt;
-            shown.put_changes(&receiver, frame as u32, &mut sink),
-            Put::Done
-        );
-        assert_eq!(rt; sink.bytes(), text.as_bytes(), "frame {frame}");
-        assert_eq!(rt; passed.pass(&receiver), !text.is_empty());
+        assert!(rt; shown.put_changes(&receiver, frame as u32, &mut sink) == Put::Done);
+        assert!(rt; sink.bytes() == text.as_bytes(), "frame {frame}");
+        assert!(rt; passed.pass(&receiver) == !text.is_empty());
     }
     Ok(())
 }

@@ -54,9 +54,9 @@ fn windows_are_printed(rt: HostRuntime) -> Result<(), AllocError> {
         write(&mut window, ch);
     }
     let mut sink = MemorySink::new(alloc, 1000, Vec::new(alloc))?;
-    assert_eq!(rt; put_text(0, &window, &mut sink), Put::Done);
+    assert!(rt; put_text(0, &window, &mut sink) == Put::Done);
     let wanted: &[u8] =
         b"W0 at 0 60 50 0 size 1 10 lock 1 1 pri 0 attr 0 0 3 0 0 0 0 fill 0000 border 0000 runs 1\n0 0 1 0 0 1 0 0 0 0222 0000 000 HELLO\n";
-    assert_eq!(rt; sink.bytes(), wanted);
+    assert!(rt; sink.bytes() == wanted);
     Ok(())
 }

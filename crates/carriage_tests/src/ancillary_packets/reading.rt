@@ -76,20 +76,19 @@ fn refusal(place: u64, why: Why) -> Result<(), Refusal> {
 fn a_packet_is_read_in_any_pieces(rt: HostRuntime) {
     for size in [1, 2, 159, 160] {
         let (answer, end, seen) = read(first_packet().as_slice(), size);
-        assert_eq!(rt; (answer, end), (Ok(()), Ok(())), "size {size}");
-        assert_eq!(rt;
-            seen.starts.as_slice(),
-            &[0x61, 0x01, 73][..],
+        assert!(rt;
+            (answer, end) == (Ok(()), Ok(()))
+                && seen.starts.as_slice() == &[0x61, 0x01, 73][..]
+                && seen.ends == 1
+                && seen.users.len() == 73,
             "size {size}"
         );
-        assert_eq!(rt; seen.ends, 1, "size {size}");
-        assert_eq!(rt; seen.users.len(), 73, "size {size}");
         let first = [
             0x296, 0x269, 0x149, 0x14F, 0x143, 0x200, 0x200, 0x272, 0x1F4,
         ];
-        assert_eq!(rt; &seen.users.as_slice()[..9], &first[..], "size {size}");
+        assert!(rt; &seen.users.as_slice()[..9] == &first[..], "size {size}");
         let last = [0x274, 0x200, 0x200, 0x1BF];
-        assert_eq!(rt; &seen.users.as_slice()[69..], &last[..], "size {size}");
+        assert!(rt; &seen.users.as_slice()[69..] == &last[..], "size {size}");
     }
 }
 
@@ -132,8 +131,7 @@ fn words_are_refused_at_their_first_byte(rt: HostRuntime) {
         let changed = with_word(packet.as_slice(), at, word);
         for size in [1, 2, 159, 160] {
             let (answer, end, _seen) = read(changed.as_slice(), size);
-            assert_eq!(rt; answer, want, "word {at}, size {size}");
-            assert_eq!(rt; end, want, "word {at}, size {size}");
+            assert!(rt; answer == want && end == want, "word {at}, size {size}");
         }
     }
 }
@@ -143,19 +141,21 @@ fn user_words_of_other_packets_are_free(rt: HostRuntime) {
     let words = [0x000, 0x3FF, 0x3FF, 0x161, 0x102, 0x101, 0x200, 0x164];
     let packet = bytes_of(&[&words[..]]);
     let (answer, end, seen) = read(packet.as_slice(), 5);
-    assert_eq!(rt; (answer, end), (Ok(()), Ok(())));
-    assert_eq!(rt; (seen.users.as_slice(), seen.ends), (&[0x200][..], 1));
+    assert!(rt;
+        (answer, end) == (Ok(()), Ok(())) && (seen.users.as_slice(), seen.ends) == (&[0x200][..], 1)
+    );
 
     // 0x161 + 0x102 + 0x101 + 0x3FF is 0x163 modulo 0x200
     let free = with_word(with_word(packet.as_slice(), 6, 0x3FF).as_slice(), 7, 0x163);
     let (answer, end, seen) = read(free.as_slice(), 16);
-    assert_eq!(rt; (answer, end), (Ok(()), Ok(())));
-    assert_eq!(rt; (seen.users.as_slice(), seen.ends), (&[0x3FF][..], 1));
+    assert!(rt;
+        (answer, end) == (Ok(()), Ok(())) && (seen.users.as_slice(), seen.ends) == (&[0x3FF][..], 1)
+    );
 
     let (answer, _end, _seen) = read(with_word(packet.as_slice(), 4, 0x202).as_slice(), 16);
-    assert_eq!(rt; answer, refusal(8, Why::WordParity));
+    assert!(rt; answer == refusal(8, Why::WordParity));
     let (answer, _end, _seen) = read(with_word(packet.as_slice(), 6, 0x400).as_slice(), 16);
-    assert_eq!(rt; answer, refusal(12, Why::HighBits));
+    assert!(rt; answer == refusal(12, Why::HighBits));
 }
 
 #[test]
@@ -165,26 +165,24 @@ fn packets_stand_back_to_back(rt: HostRuntime) {
     let _ = bytes.try_extend_from_slice(bytes_of(&[&words[..]]).as_slice());
     let _ = bytes.try_extend_from_slice(first_packet().as_slice());
     let (answer, end, seen) = read(bytes.as_slice(), 7);
-    assert_eq!(rt; (answer, end), (Ok(()), Ok(())));
+    assert!(rt; (answer, end) == (Ok(()), Ok(())));
     let starts = [0x61, 0x01, 73, 0x61, 0x02, 0, 0x61, 0x01, 73];
-    assert_eq!(rt; seen.starts.as_slice(), &starts[..]);
-    assert_eq!(rt; (seen.users.len(), seen.ends), (146, 3));
+    assert!(rt; seen.starts.as_slice() == &starts[..] && (seen.users.len(), seen.ends) == (146, 3));
 }
 
 #[test]
 fn bytes_may_end_behind_a_packet_alone(rt: HostRuntime) {
     let packet = first_packet();
     let (answer, end, _seen) = read(&[], 1);
-    assert_eq!(rt; (answer, end), (Ok(()), Ok(())));
+    assert!(rt; (answer, end) == (Ok(()), Ok(())));
     for cut in [1, 2, 5, 12, 159] {
         let (answer, end, _seen) = read(&packet.as_slice()[..packet.len().min(cut)], 3);
-        assert_eq!(rt; answer, Ok(()));
-        assert_eq!(rt; end, refusal(cut as u64, Why::Truncated));
+        assert!(rt; answer == Ok(()) && end == refusal(cut as u64, Why::Truncated));
     }
     let mut longer = first_packet();
     let _ = longer.try_push(0xFF);
     let (answer, end, _seen) = read(longer.as_slice(), 161);
-    assert_eq!(rt; (answer, end), (Ok(()), refusal(161, Why::Truncated)));
+    assert!(rt; (answer, end) == (Ok(()), refusal(161, Why::Truncated)));
 }
 
 #[test]

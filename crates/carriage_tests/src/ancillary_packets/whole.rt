@@ -20,7 +20,7 @@ fn found(bytes: &[u8]) -> Option<(usize, ArrayVec<u8, 255>)> {
 fn a_whole_packet_is_found_with_its_user_bytes(rt: HostRuntime) {
     let packet = first_packet();
     let user = distribution_packet(0, [0x80, 0x80], 0xBF);
-    assert_eq!(rt; found(packet.as_slice()), Some((160, user)));
+    assert!(rt; found(packet.as_slice()) == Some((160, user)));
 }
 
 #[test]
@@ -29,7 +29,7 @@ fn bytes_behind_the_packet_change_nothing(rt: HostRuntime) {
     let _ = bytes.try_extend_from_slice(&[0xFF; 3]);
     let _ = bytes.try_extend_from_slice(first_packet().as_slice());
     let user = distribution_packet(0, [0x80, 0x80], 0xBF);
-    assert_eq!(rt; found(bytes.as_slice()), Some((160, user)));
+    assert!(rt; found(bytes.as_slice()) == Some((160, user)));
 }
 
 #[test]
@@ -90,14 +90,14 @@ fn a_packet_of_another_kind_is_not_found(rt: HostRuntime) {
 fn an_empty_packet_and_a_full_one_are_found(rt: HostRuntime) {
     let words = [0x000, 0x3FF, 0x3FF, 0x161, 0x101, 0x200, 0x262];
     let empty = bytes_of(&[&words[..]]);
-    assert_eq!(rt; found(empty.as_slice()), Some((14, ArrayVec::new())));
+    assert!(rt; found(empty.as_slice()) == Some((14, ArrayVec::new())));
 
     // 0x161 + 0x101 + 256 * 0xFF is 0x162 modulo 0x200
     let front = [0x000, 0x3FF, 0x3FF, 0x161, 0x101, 0x2FF];
     let full = bytes_of(&[&front[..], &[0x2FF; 255], &[0x162]]);
     let mut user = ArrayVec::new();
     let _ = user.try_extend_from_slice(&[0xFF; 255]);
-    assert_eq!(rt; found(full.as_slice()), Some((524, user)));
+    assert!(rt; found(full.as_slice()) == Some((524, user)));
 }
 
 #[test]
@@ -107,8 +107,7 @@ fn what_stands_behind_the_user_bytes_stays(rt: HostRuntime) {
         0,
         |packet| packet.user_bytes(&mut out),
     );
-    assert_eq!(rt; len, 73);
-    assert!(rt; out.iter().skip(73).all(|byte| *byte == 0xAA));
+    assert!(rt; len == 73 && out.iter().skip(73).all(|byte| *byte == 0xAA));
 }
 
 // A layer that takes all parts.
@@ -137,13 +136,12 @@ fn a_reader_goes_on_behind_a_packet_that_it_passed_over(rt: HostRuntime) {
     }
     assert!(rt; reader.is_closed());
     let answer = reader.feed(&[0x00, 0x00, 0x03], &mut All);
-    assert_eq!(rt; answer, Ok(()));
-    assert!(rt; !reader.is_closed());
+    assert!(rt; answer == Ok(()) && !reader.is_closed());
     let want = Err(Refusal {
         place: 322,
         why: Why::Flag,
     });
-    assert_eq!(rt; reader.feed(&[0xFE], &mut All), want);
+    assert!(rt; reader.feed(&[0xFE], &mut All) == want);
     assert!(rt; !reader.is_closed());
-    assert_eq!(rt; reader.finish(), want);
+    assert!(rt; reader.finish() == want);
 }

@@ -28,7 +28,7 @@ fn the_packet_of_a_frame_without_captions_is_read(rt: HostRuntime) {
         counter: 0,
         sections: &WITHOUT_CAPTIONS[7..69],
     };
-    assert_eq!(rt; whole, Some(expected));
+    assert!(rt; whole == Some(expected));
 }
 
 #[test]
@@ -37,7 +37,7 @@ fn a_packet_with_another_byte_is_none(rt: HostRuntime) {
         for by in [1, 2, 16, 0x80, 0xFF] {
             let mut packet = WITHOUT_CAPTIONS;
             packet[at] = packet[at].wrapping_add(by);
-            assert_eq!(rt; read_whole(&packet), None, "byte {at} by {by}");
+            assert!(rt; read_whole(&packet).is_none(), "byte {at} by {by}");
         }
     }
 }
@@ -49,17 +49,16 @@ fn a_byte_whose_change_the_sum_makes_good_is_told_where_none_forbids_it(rt: Host
         let whole = read_whole(&packet);
         match at {
             // the bits beside the rate were ones, so that the next rate stands in the byte
-            3 => assert_eq!(rt; whole.map(|w| w.rate), Some(Rate::F30)),
-            4 => assert_eq!(rt; whole.map(|w| w.flags), Some(0x44)),
+            3 => assert!(rt; whole.map(|w| w.rate) == Some(Rate::F30)),
+            4 => assert!(rt; whole.map(|w| w.flags) == Some(0x44)),
             9..=68 => {
-                assert_eq!(rt;
-                    whole.map(|w| w.sections),
-                    Some(&packet[7..69]),
+                assert!(rt;
+                    whole.map(|w| w.sections) == Some(&packet[7..69]),
                     "byte {at}"
                 )
             }
             // the identifier, the length, the two counters, the section's id and count, and the footer's id
-            _ => assert_eq!(rt; whole, None, "byte {at}"),
+            _ => assert!(rt; whole.is_none(), "byte {at}"),
         }
     }
 }
@@ -72,7 +71,7 @@ fn the_counters_stand_for_one_another(rt: HostRuntime) {
         packet[again] = 1;
         packet[72] = 0xBD;
         let whole = read_whole(&packet);
-        assert_eq!(rt; whole.map(|w| w.counter), Some(counter));
+        assert!(rt; whole.map(|w| w.counter) == Some(counter));
     }
 }
 
@@ -98,7 +97,7 @@ fn rates_have_the_codes_1_to_8(rt: HostRuntime) {
                 1..=8 => Some(rates[usize::from(code) - 1]),
                 _ => None,
             };
-            assert_eq!(rt; read_whole(&packet).map(|w| w.rate), rate, "code {code}");
+            assert!(rt; read_whole(&packet).map(|w| w.rate) == rate, "code {code}");
         }
     }
 }
@@ -106,15 +105,18 @@ fn rates_have_the_codes_1_to_8(rt: HostRuntime) {
 #[test]
 fn no_more_and_no_fewer_bytes_are_a_packet(rt: HostRuntime) {
     for size in 0..WITHOUT_CAPTIONS.len() {
-        assert_eq!(rt; read_whole(&WITHOUT_CAPTIONS[..size]), None, "{size} bytes");
+        assert!(rt;
+            read_whole(&WITHOUT_CAPTIONS[..size]).is_none(),
+            "{size} bytes"
+        );
     }
     let mut longer = [0; 74];
     longer[..73].copy_from_slice(&WITHOUT_CAPTIONS);
-    assert_eq!(rt; read_whole(&longer), None);
+    assert!(rt; read_whole(&longer).is_none());
     // nor where the length is that of all bytes, and the sum is made good
     longer[2] = 0x4A;
     longer[72] = 0xBE;
-    assert_eq!(rt; read_whole(&longer), None);
+    assert!(rt; read_whole(&longer).is_none());
 }
 
 #[test]
@@ -129,7 +131,7 @@ fn a_packet_without_sections_is_read(rt: HostRuntime) {
         counter: 0x8001,
         sections: &[],
     };
-    assert_eq!(rt; read_whole(&packet), Some(expected));
+    assert!(rt; read_whole(&packet) == Some(expected));
 }
 
 // The packet of sections of every kind at 25 frames a second, whose flags are E7 and whose counter is 1234.
@@ -150,7 +152,7 @@ fn a_packet_with_sections_of_every_kind_is_read(rt: HostRuntime) {
         counter: 0x1234,
         sections: &EVERY_KIND,
     };
-    assert_eq!(rt; read_whole(&packet), Some(expected));
+    assert!(rt; read_whole(&packet) == Some(expected));
 }
 
 #[test]
@@ -165,14 +167,12 @@ fn sections_are_split_one_after_another(rt: HostRuntime) {
         (&EVERY_KIND[24..], none),
     ] {
         let parts = split_section(rest);
-        assert_eq!(rt; parts.map(|p| p.0), Some(section));
-        assert_eq!(rt; triplet_bytes(section), triplets);
+        assert!(rt; parts.map(|p| p.0) == Some(section) && triplet_bytes(section) == triplets);
         if let Some((_, behind)) = parts {
             rest = behind;
         }
     }
-    assert!(rt; rest.is_empty());
-    assert_eq!(rt; split_section(rest), None);
+    assert!(rt; rest.is_empty() && split_section(rest).is_none());
 }
 
 #[test]
@@ -192,6 +192,6 @@ fn bytes_that_begin_with_no_whole_section_are_none(rt: HostRuntime) {
         &[0x00, 0x00, 0x00],
     ];
     for (number, front) in FRONTS.iter().enumerate() {
-        assert_eq!(rt; split_section(front), None, "front {number}");
+        assert!(rt; split_section(front).is_none(), "front {number}");
     }
 }

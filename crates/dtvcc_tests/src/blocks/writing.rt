@@ -16,17 +16,14 @@ fn blocks_are_appended(rt: HostRuntime) {
     let expected = [
         0x22, 0x41, 0x42, 0xC1, 0x43, 0xE1, 0x07, 0x44, 0xE2, 0x3F, 0x45, 0x46,
     ];
-    assert_eq!(rt; out.as_slice(), expected.as_slice());
+    assert!(rt; out.as_slice() == expected.as_slice());
 }
 
 #[test]
 fn the_longest_block_has_31_bytes(rt: HostRuntime) {
     let mut out: ArrayVec<u8, 33> = ArrayVec::new();
     write_block(8, &[0x41; 31], &mut out);
-    assert_eq!(rt;
-        (out.len(), out[0], out[1], out[32]),
-        (33, 0xFF, 0x08, 0x41)
-    );
+    assert!(rt; (out.len(), out[0], out[1], out[32]) == (33, 0xFF, 0x08, 0x41));
 }
 
 // The bytes of services that triplets carry, where none is refused.
@@ -75,13 +72,13 @@ fn the_bytes_of_service_1_stand_behind_their_header(rt: HostRuntime) -> Result<(
         expected.push(BlockPart::Byte { service: 1, value })?;
     }
     let heard = heard(rt.alloc(), &triplets)?;
-    assert_eq!(rt; heard.as_slice(), expected.as_slice());
+    assert!(rt; heard.as_slice() == expected.as_slice());
     // and they are written so
     let mut block: ArrayVec<u8, 35> = ArrayVec::new();
     write_block(1, &bytes, &mut block);
     let mut out: ArrayVec<Triplet, 64> = ArrayVec::new();
     let mut writer = PacketWriter::new();
     writer.write(block.as_slice(), &mut out);
-    assert_eq!(rt; out.as_slice(), triplets.as_slice());
+    assert!(rt; out.as_slice() == triplets.as_slice());
     Ok(())
 }

@@ -97,10 +97,8 @@ fn packets_are_read_in_any_pieces(rt: HostRuntime) -> Result<(), Fail> {
     let triplets = triplets(rt.alloc(), &bytes)?;
     for size in [1, 2, 3, 11] {
         let (answer, seen) = read(rt.alloc(), triplets.as_slice(), size);
-        assert_eq!(rt; answer, Ok(()), "in pieces of {size}");
-        assert_eq!(rt;
-            seen.parts.as_slice(),
-            expected.as_slice(),
+        assert!(rt;
+            answer == Ok(()) && seen.parts.as_slice() == expected.as_slice(),
             "in pieces of {size}"
         );
     }
@@ -117,10 +115,9 @@ fn a_refusal_of_the_layer_above_is_kept(rt: HostRuntime) -> Result<(), Fail> {
             place: 1,
             why: Why::Overrun,
         };
-        assert_eq!(rt; answer, Err(refusal));
-        assert_eq!(rt;
-            seen.parts.as_slice(),
-            [header(false, 3), byte(0x11, 2), byte(0xEE, 1)].as_slice()
+        assert!(rt; answer == Err(refusal));
+        assert!(rt;
+            seen.parts.as_slice() == [header(false, 3), byte(0x11, 2), byte(0xEE, 1)].as_slice()
         );
     }
     Ok(())
@@ -143,7 +140,7 @@ fn triplets_are_read_one_by_one(rt: HostRuntime) {
             Step::Two(header(true, 1), byte(0x21, 0)),
         ),
     ] {
-        assert_eq!(rt; reader.step(read_triplet(bytes)), step);
+        assert!(rt; reader.step(read_triplet(bytes)) == step);
     }
 }
 

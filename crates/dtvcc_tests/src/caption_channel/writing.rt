@@ -20,11 +20,10 @@ fn packets_are_numbered_and_completed(rt: HostRuntime) {
     ] {
         let mut out: ArrayVec<Triplet, 64> = ArrayVec::new();
         writer.write(&blocks[..count], &mut out);
-        assert_eq!(rt; out.len(), count / 2 + 1, "the packet of number {number}");
+        assert!(rt; out.len() == count / 2 + 1, "the packet of number {number}");
         for (triplet, bytes) in out.iter().zip(&expected) {
-            assert_eq!(rt;
-                *triplet,
-                read_triplet(*bytes),
+            assert!(rt;
+                *triplet == read_triplet(*bytes),
                 "the packet of number {number}"
             );
         }
@@ -38,7 +37,6 @@ fn the_longest_packets_have_64_triplets(rt: HostRuntime) {
         let mut writer = PacketWriter::new();
         let mut out: ArrayVec<Triplet, 64> = ArrayVec::new();
         writer.write(&bytes[..count], &mut out);
-        assert_eq!(rt; out.len(), 64);
-        assert_eq!(rt; out[0].a, 0x00);
+        assert!(rt; out.len() == 64 && out[0].a == 0x00);
     }
 }

@@ -8,20 +8,19 @@ use std::test::Fail;
 
 // The cue has these frames and this kind.
 fn is_cue(rt: &impl Abort, cue: &Cue, kind: Kind, load: u32, show: u32, hide: Option<u32>) {
-    assert_eq!(rt; cue.kind, kind);
-    assert_eq!(rt; cue.load, load);
-    assert_eq!(rt; cue.show, show);
-    assert_eq!(rt; cue.hide, hide);
+    assert!(rt; cue.kind == kind && cue.load == load && cue.show == show && cue.hide == hide);
 }
 
 // The cue's run at this place has these fields.
 fn has_run(rt: &impl Abort, cue: &Cue, place: usize, row: u8, col: u8, pen: Style, text: &[char]) {
     assert!(rt; place < cue.runs.as_slice().len());
     let run = &cue.runs.as_slice()[place];
-    assert_eq!(rt; run.row, row);
-    assert_eq!(rt; run.col, col);
-    assert_eq!(rt; run.pen, Pen::Line21(pen));
-    assert_eq!(rt; run.text.as_slice(), text);
+    assert!(rt;
+        run.row == row
+            && run.col == col
+            && run.pen == Pen::Line21(pen)
+            && run.text.as_slice() == text
+    );
 }
 
 fn style(colour: Colour, italic: bool, underline: bool) -> Style {
@@ -38,10 +37,10 @@ fn cues_of_each_kind_are_read(rt: HostRuntime) -> Result<(), Fail> {
         rt.alloc(),
         b"ccsuite,1,30,500\npop,CC3,10,60,120\nrun,1,0,white-i-u,A\xE2\x99\xAA\nrun,2,31,magenta-u,\xC3\x81\npaint,CC1,0,100,200\nrun,14,3,green,B\nroll,CC1,3,200,210,\nrun,15,0,white-u,C\nrun,15,8,white-i,D\nroll,CC1,4,210,220,300\nrun,4,0,cyan,E\n",
     )?;
-    assert_eq!(rt; list.cues().len(), 4);
+    assert!(rt; list.cues().len() == 4);
     let pop = &list.cues()[0];
     is_cue(&rt, pop, Kind::Pop(Chan::Cc3), 10, 60, Some(120));
-    assert_eq!(rt; pop.runs.as_slice().len(), 2);
+    assert!(rt; pop.runs.as_slice().len() == 2);
     has_run(
         &rt,
         pop,
@@ -62,7 +61,7 @@ fn cues_of_each_kind_are_read(rt: HostRuntime) -> Result<(), Fail> {
     );
     let paint = &list.cues()[1];
     is_cue(&rt, paint, Kind::Paint(Chan::Cc1), 0, 100, Some(200));
-    assert_eq!(rt; paint.runs.as_slice().len(), 1);
+    assert!(rt; paint.runs.as_slice().len() == 1);
     has_run(
         &rt,
         paint,
@@ -74,7 +73,7 @@ fn cues_of_each_kind_are_read(rt: HostRuntime) -> Result<(), Fail> {
     );
     let roll = &list.cues()[2];
     is_cue(&rt, roll, Kind::Roll(Chan::Cc1, 3), 200, 210, None);
-    assert_eq!(rt; roll.runs.as_slice().len(), 2);
+    assert!(rt; roll.runs.as_slice().len() == 2);
     has_run(
         &rt,
         roll,
@@ -113,7 +112,7 @@ fn each_pen_is_read(rt: HostRuntime) -> Result<(), Fail> {
         rt.alloc(),
         b"ccsuite,1,30,500\npop,CC1,10,60,120\nrun,1,0,white,A\nrun,2,0,green,A\nrun,3,0,blue,A\nrun,4,0,cyan,A\nrun,5,0,red,A\nrun,6,0,yellow,A\nrun,7,0,magenta,A\nrun,8,0,white-i,A\nrun,1,9,white-u,A\nrun,2,9,green-u,A\nrun,3,9,blue-u,A\nrun,4,9,cyan-u,A\nrun,5,9,red-u,A\nrun,6,9,yellow-u,A\nrun,7,9,magenta-u,A\nrun,8,9,white-i-u,A\n",
     )?;
-    assert_eq!(rt; list.cues().len(), 1);
+    assert!(rt; list.cues().len() == 1);
     let runs = list.cues()[0].runs.as_slice();
     let pens = [
         style(Colour::White, false, false),
@@ -133,9 +132,9 @@ fn each_pen_is_read(rt: HostRuntime) -> Result<(), Fail> {
         style(Colour::Magenta, false, true),
         style(Colour::White, true, true),
     ];
-    assert_eq!(rt; runs.len(), pens.len());
+    assert!(rt; runs.len() == pens.len());
     for (run, pen) in runs.iter().zip(pens.iter()) {
-        assert_eq!(rt; run.pen, Pen::Line21(*pen));
+        assert!(rt; run.pen == Pen::Line21(*pen));
     }
     Ok(())
 }
@@ -146,7 +145,7 @@ fn characters_of_each_table_are_read(rt: HostRuntime) -> Result<(), Fail> {
         rt.alloc(),
         b"ccsuite,1,30,500\npop,CC1,10,60,120\nrun,15,0,white,\"A,\"\"'\xC2\xAE\xE2\x99\xAA*\xC3\x81\"\n",
     )?;
-    assert_eq!(rt; list.cues().len(), 1);
+    assert!(rt; list.cues().len() == 1);
     let text = ['A', ',', '"', '\'', '\u{ae}', '\u{266a}', '*', '\u{c1}'];
     has_run(
         &rt,

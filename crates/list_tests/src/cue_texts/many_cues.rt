@@ -32,24 +32,26 @@ fn read_behind(rt: &impl Abort, alloc: Global, rest: &[u8]) -> Result<CueList, C
 #[test]
 fn twenty_thousand_cues_are_read(rt: HostRuntime) -> Result<(), Fail> {
     let list = read_behind(&rt, rt.alloc(), b"run,1,0,white,A\n")?;
-    assert_eq!(rt; list.cues().len(), 20_000);
-    assert_eq!(rt; list.cues()[0].runs.as_slice().len(), 1);
-    assert_eq!(rt; list.cues()[19_999].runs.as_slice().len(), 2);
+    assert!(rt;
+        list.cues().len() == 20_000
+            && list.cues()[0].runs.as_slice().len() == 1
+            && list.cues()[19_999].runs.as_slice().len() == 2
+    );
     Ok(())
 }
 
 #[test]
 fn one_more_cue_passes_the_limit(rt: HostRuntime) {
     match read_behind(&rt, rt.alloc(), b"pop,CC1,10,60,120\n") {
-        Err(CueFault::Limit(found)) => assert_eq!(rt; found, LimitOf::Cues),
+        Err(CueFault::Limit(found)) => assert!(rt; found == LimitOf::Cues),
         _ => panic!(rt; "no limit"),
     }
     match read_behind(&rt, rt.alloc(), b"roll\n") {
-        Err(CueFault::Limit(found)) => assert_eq!(rt; found, LimitOf::Cues),
+        Err(CueFault::Limit(found)) => assert!(rt; found == LimitOf::Cues),
         _ => panic!(rt; "no limit"),
     }
     match read_behind(&rt, rt.alloc(), b"win\n") {
-        Err(CueFault::Limit(found)) => assert_eq!(rt; found, LimitOf::Cues),
+        Err(CueFault::Limit(found)) => assert!(rt; found == LimitOf::Cues),
         _ => panic!(rt; "no limit"),
     }
 }
@@ -58,9 +60,7 @@ fn one_more_cue_passes_the_limit(rt: HostRuntime) {
 fn what_cannot_stand_there_comes_before_the_limit(rt: HostRuntime) {
     match read_behind(&rt, rt.alloc(), b"share,1,8\n") {
         Err(CueFault::Malformed { rec, field, why }) => {
-            assert_eq!(rt; rec, 40_002);
-            assert_eq!(rt; field, 1);
-            assert_eq!(rt; why, Why::Field);
+            assert!(rt; rec == 40_002 && field == 1 && why == Why::Field);
         }
         _ => panic!(rt; "no fault of a record"),
     }
@@ -76,9 +76,7 @@ fn a_cue_behind_one_without_a_run_is_out_of_form(rt: HostRuntime) -> Result<(), 
     assert!(rt; text.len() <= 1_000_000);
     match parse(rt.alloc(), text.as_slice()) {
         Err(CueFault::Malformed { rec, field, why }) => {
-            assert_eq!(rt; rec, 40_001);
-            assert_eq!(rt; field, 1);
-            assert_eq!(rt; why, Why::Field);
+            assert!(rt; rec == 40_001 && field == 1 && why == Why::Field);
         }
         _ => panic!(rt; "no fault of a record"),
     }

@@ -21,8 +21,7 @@ fn refused(rt: &impl Abort, alloc: Global, text: &[u8], place: (u32, u32), why: 
                 why: found,
             },
         ) => {
-            assert_eq!(rt; (rec, field), place, "{text:?}");
-            assert_eq!(rt; found, why, "{text:?}");
+            assert!(rt; (rec, field) == place && found == why, "{text:?}");
         }
         _ => panic!(rt; "no fault of a record"),
     }

@@ -26,7 +26,7 @@ fn lists_have_their_packets_in_order(rt: HostRuntime) {
     for &(text, count) in LISTS {
         assert!(rt; text.len() <= 1000);
         match parse_xds(rt.alloc(), text.as_bytes()) {
-            Ok(list) => assert_eq!(rt; list.len(), count, "{text:?}"),
+            Ok(list) => assert!(rt; list.len() == count, "{text:?}"),
             Err(_) => panic!(rt; "the list has a fault"),
         }
     }
@@ -40,12 +40,14 @@ fn a_packet_has_the_fields_of_its_record(rt: HostRuntime) {
     let Ok(list) = parse_xds(rt.alloc(), text.as_bytes()) else {
         panic!(rt; "the list has a fault");
     };
-    assert_eq!(rt; list.len(), 2);
+    assert!(rt; list.len() == 2);
     let first = list.listed(0, 0);
-    assert_eq!(rt; first.from, 12);
-    assert_eq!(rt; first.packet.class, 3);
-    assert_eq!(rt; first.packet.kind, 45);
-    assert_eq!(rt; first.packet.text.as_slice(), b"NEWS".as_slice());
+    assert!(rt;
+        first.from == 12
+            && first.packet.class == 3
+            && first.packet.kind == 45
+            && first.packet.text.as_slice() == b"NEWS".as_slice()
+    );
 }
 
 // Each list is refused at the record and the field beside it.
@@ -60,8 +62,10 @@ fn are_refused(rt: &impl Abort, alloc: Global, cases: &[(&str, u32, u32)]) {
                     why,
                 },
             ) => {
-                assert_eq!(rt; (at, place), (*rec, *field), "{text:?}");
-                assert_eq!(rt; why, Why::Field, "{text:?}");
+                assert!(rt;
+                    (at, place) == (*rec, *field) && why == Why::Field,
+                    "{text:?}"
+                );
             }
             _ => panic!(rt; "no fault of a record"),
         }

@@ -99,21 +99,23 @@ fn a_frame_beside_the_last_one_is_read(rt: HostRuntime) -> Result<(), AllocError
             for size in SIZES {
                 let front = &bytes.as_slice()[..320.min(bytes.len())];
                 let (receiver, answer) = fed(alloc, front, size)?;
-                assert_eq!(rt; (answer, receiver.frames()), (Ok(()), 2), "byte {at}");
+                assert!(rt; (answer, receiver.frames()) == (Ok(()), 2), "byte {at}");
                 let want = sections_with(alloc, at, bits)?;
                 assert!(rt; receiver.frames() > 0);
-                assert_eq!(rt; receiver.sections(), want.as_slice(), "byte {at}");
+                assert!(rt; receiver.sections() == want.as_slice(), "byte {at}");
                 // the pairs are null but where one of their own bytes is another
                 let idle = !matches!(at, 3 | 4 | 6 | 7);
-                assert_eq!(rt; receiver.is_idle(), idle, "byte {at}");
+                assert!(rt; receiver.is_idle() == idle, "byte {at}");
                 // with FD in place of FC, or a triplet that doesn't count, field 1 has no pair; with FC in place of FD it has two
                 let pairs = match (at, bits) {
                     (2, _) => 0,
                     (5, LOWEST) => 2,
                     _ => 1,
                 };
-                assert_eq!(rt; receiver.pairs_one().len(), pairs, "byte {at}");
-                assert_eq!(rt; receiver.triplet_count(), 20, "byte {at}");
+                assert!(rt;
+                    receiver.pairs_one().len() == pairs && receiver.triplet_count() == 20,
+                    "byte {at}"
+                );
             }
         }
     }
@@ -129,13 +131,16 @@ fn frames_like_one_another_are_read(rt: HostRuntime) -> Result<(), AllocError> {
             let bytes = file_with(alloc, at, bits)?;
             for size in SIZES {
                 let (receiver, answer) = fed(alloc, bytes.as_slice(), size)?;
-                assert_eq!(rt; (answer, receiver.frames()), (Ok(()), 4), "byte {at}");
+                assert!(rt; (answer, receiver.frames()) == (Ok(()), 4), "byte {at}");
                 assert!(rt; receiver.frames() > 0);
-                assert_eq!(rt; receiver.counter(), 3, "byte {at}");
-                assert_eq!(rt; receiver.sections(), want.as_slice(), "byte {at}");
-                assert_eq!(rt; receiver.is_idle(), true, "byte {at}");
-                assert_eq!(rt; receiver.pairs_one().len(), 1, "byte {at}");
-                assert_eq!(rt; receiver.triplet_count(), 20, "byte {at}");
+                assert!(rt;
+                    receiver.counter() == 3
+                        && receiver.sections() == want.as_slice()
+                        && receiver.is_idle()
+                        && receiver.pairs_one().len() == 1
+                        && receiver.triplet_count() == 20,
+                    "byte {at}"
+                );
             }
         }
     }
@@ -151,8 +156,10 @@ fn other_heads_of_a_section_are_refused(rt: HostRuntime) -> Result<(), AllocErro
         let bytes = file_with(alloc, at, LOWEST)?;
         for size in SIZES {
             let (receiver, answer) = fed(alloc, bytes.as_slice(), size)?;
-            assert_eq!(rt; answer, Err(Refusal { place, why }), "byte {at}");
-            assert_eq!(rt; receiver.frames(), 1, "byte {at}");
+            assert!(rt;
+                answer == Err(Refusal { place, why }) && receiver.frames() == 1,
+                "byte {at}"
+            );
         }
     }
     Ok(())

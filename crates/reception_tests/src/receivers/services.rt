@@ -307,23 +307,14 @@ fn rows_behind(alloc: Global, frames: &[Carrying], size: usize) -> Result<String
 fn services_show_what_their_bytes_say(rt: HostRuntime) -> Result<(), AllocError> {
     let alloc = rt.alloc();
     for size in SIZES {
-        assert_eq!(rt; rows_behind(alloc, &[SEVEN], size)?.as_str(), "7 HI, ");
+        assert!(rt; rows_behind(alloc, &[SEVEN], size)?.as_str() == "7 HI, ");
         let three = rows_behind(alloc, &[SEVEN, NINE, SIXTY_THREE], size)?;
-        assert_eq!(rt; three.as_str(), "7 HI, 9 HO, 63 HA, ");
-        assert_eq!(rt; rows_behind(alloc, &[TWO], size)?.as_str(), "1 HI, 2 HO, ");
-        assert_eq!(rt;
-            rows_behind(alloc, &[TWO, BEHIND_A_GAP], size)?.as_str(),
-            ""
-        );
-        assert_eq!(rt;
-            rows_behind(alloc, &[TWO, NEW_BEHIND_A_GAP], size)?.as_str(),
-            "3 HA, "
-        );
-        assert_eq!(rt; rows_behind(alloc, &[FIRST_HALF], size)?.as_str(), "");
-        assert_eq!(rt;
-            rows_behind(alloc, &[FIRST_HALF, SECOND_HALF], size)?.as_str(),
-            "1 HI, "
-        );
+        assert!(rt; three.as_str() == "7 HI, 9 HO, 63 HA, ");
+        assert!(rt; rows_behind(alloc, &[TWO], size)?.as_str() == "1 HI, 2 HO, ");
+        assert!(rt; rows_behind(alloc, &[TWO, BEHIND_A_GAP], size)?.as_str() == "");
+        assert!(rt; rows_behind(alloc, &[TWO, NEW_BEHIND_A_GAP], size)?.as_str() == "3 HA, ");
+        assert!(rt; rows_behind(alloc, &[FIRST_HALF], size)?.as_str() == "");
+        assert!(rt; rows_behind(alloc, &[FIRST_HALF, SECOND_HALF], size)?.as_str() == "1 HI, ");
     }
     Ok(())
 }
@@ -334,14 +325,8 @@ fn services_show_what_their_bytes_say(rt: HostRuntime) -> Result<(), AllocError>
 fn triplets_that_come_again_act_again(rt: HostRuntime) -> Result<(), AllocError> {
     let alloc = rt.alloc();
     for size in SIZES {
-        assert_eq!(rt;
-            rows_behind(alloc, &[SEVEN, SEVEN], size)?.as_str(),
-            "7 HI, "
-        );
-        assert_eq!(rt;
-            rows_behind(alloc, &[SEVEN, NINE, NINE], size)?.as_str(),
-            "9 HO, "
-        );
+        assert!(rt; rows_behind(alloc, &[SEVEN, SEVEN], size)?.as_str() == "7 HI, ");
+        assert!(rt; rows_behind(alloc, &[SEVEN, NINE, NINE], size)?.as_str() == "9 HO, ");
     }
     Ok(())
 }
@@ -363,22 +348,19 @@ fn delays_of_two_services_end_in_one_frame(rt: HostRuntime) -> Result<(), AllocE
             put_frame(SILENT, &mut bytes)?;
         }
         let (receiver, answer) = fed(alloc, bytes.as_slice(), 160)?;
-        assert_eq!(rt; answer, Ok(()), "{later} frames later");
-        assert_eq!(rt;
-            first_row(alloc, &receiver, 1)?.as_deref(),
-            Some(one),
+        assert!(rt; answer == Ok(()), "{later} frames later");
+        assert!(rt;
+            first_row(alloc, &receiver, 1)?.as_deref() == Some(one),
             "{later} frames later"
         );
-        assert_eq!(rt;
-            first_row(alloc, &receiver, 2)?.as_deref(),
-            Some(two),
+        assert!(rt;
+            first_row(alloc, &receiver, 2)?.as_deref() == Some(two),
             "{later} frames later"
         );
-        assert_eq!(rt;
-            (receiver.held(1), receiver.held(2), receiver.held(3)),
-            (held, held, 0)
+        assert!(rt;
+            (receiver.held(1), receiver.held(2), receiver.held(3)) == (held, held, 0)
+                && (receiver.is_used(2), receiver.is_used(3)) == (true, false)
         );
-        assert_eq!(rt; (receiver.is_used(2), receiver.is_used(3)), (true, false));
     }
     Ok(())
 }
@@ -407,17 +389,18 @@ fn a_window_is_seen_from_its_delay_on(rt: HostRuntime) -> Result<(), AllocError>
             }
         }
         let (receiver, answer) = fed(alloc, bytes.as_slice(), 160)?;
-        assert_eq!(rt; answer, Ok(()), "{frames} frames");
-        assert_eq!(rt; receiver.frames(), frames);
-        assert_eq!(rt;
-            first_row(alloc, &receiver, 1)?.as_deref(),
-            want,
+        assert!(rt; answer == Ok(()), "{frames} frames");
+        assert!(rt; receiver.frames() == frames);
+        assert!(rt;
+            first_row(alloc, &receiver, 1)?.as_deref() == want,
             "{frames} frames"
         );
-        assert_eq!(rt; receiver.held(1), held, "{frames} frames");
+        assert!(rt; receiver.held(1) == held, "{frames} frames");
         if receiver.frames() > 0 {
-            assert_eq!(rt; receiver.is_touched(), touched, "{frames} frames");
-            assert_eq!(rt; receiver.filled(), None, "{frames} frames");
+            assert!(rt;
+                receiver.is_touched() == touched && receiver.filled().is_none(),
+                "{frames} frames"
+            );
         }
     }
     Ok(())
