@@ -57,7 +57,7 @@ fn lists_are_run(rt: HostRuntime) {
     assert!(rt; ccsuite_dual(alloc, LIST, LIST, &mut out, &mut report) == 0);
     assert!(rt; report.written == 160);
     assert!(rt; ccsuite_xds(alloc, LIST, b"xds,0,1,3,NEWS\n", &mut out, &mut report) == 12);
-    assert!(rt; (report.packet, report.written) == (1, 0));
+    assert!(rt; report.packet == 1 && report.written == 0);
     assert!(rt; ccsuite_cues(alloc, LIST, &mut out, &mut report) == 0);
     assert!(rt; out.starts_with(b"ccsuite,2,29.97,1\n"));
     assert!(rt; ccsuite_pairs(alloc, LIST, &mut out, &mut report) == 0);
@@ -72,7 +72,7 @@ fn scc_files_are_run(rt: HostRuntime) {
     assert!(rt; ccsuite_import(alloc, SCC, &mut out, &mut report) == 0);
     assert!(rt; report.written == 160);
     assert!(rt; ccsuite_import(alloc, LIST, &mut out, &mut report) == 6);
-    assert!(rt; (report.status, report.why, report.place) == (6, 15, 0));
+    assert!(rt; report.status == 6 && report.why == 15 && report.place == 0);
     assert!(rt; ccsuite_export(alloc, &built(alloc), &START, &mut out, &mut report) == 0);
     assert!(rt; out.starts_with(b"Scenarist_SCC V1.0\n"));
     let no_time = StartTime { hours: 24, ..START };
@@ -94,9 +94,9 @@ fn mcc_files_are_run(rt: HostRuntime) {
     }
     assert!(rt; report.written == 160 && again.starts_with(&words));
     assert!(rt; ccsuite_import_mcc(alloc, LIST, &mut again, &mut report) == 6);
-    assert!(rt; (report.status, report.place, report.written) == (6, 0, 0));
+    assert!(rt; report.status == 6 && report.place == 0 && report.written == 0);
     assert!(rt; ccsuite_export_mcc(alloc, &words, 25, &START, &mut out, &mut report) == 9);
-    assert!(rt; (report.why, report.expected, report.seen) == (44, 3, 4));
+    assert!(rt; report.why == 44 && report.expected == 3 && report.seen == 4);
     assert!(rt; ccsuite_export_mcc(alloc, &words, 29, &START, &mut out, &mut report) == 1);
 }
 
@@ -126,7 +126,7 @@ fn words_are_shown(rt: HostRuntime) {
     assert!(rt; ccsuite_xds_show(alloc, &words, &mut out, &mut report) == 0);
     assert!(rt; report.written == 9);
     assert!(rt; ccsuite_show(alloc, &words, 1, &mut out, &mut report) == 10);
-    assert!(rt; (report.frame, report.written) == (1, 0));
+    assert!(rt; report.frame == 1 && report.written == 0);
 }
 
 #[test]
@@ -151,7 +151,7 @@ fn a_builder_gives_its_frames(rt: HostRuntime) {
     assert!(rt; ccsuite_builder_open(alloc, LIST, &mut builder, &mut report) == 0);
     assert!(rt; ccsuite_builder_next(alloc, &mut builder, &mut out[..523], &mut written) == 3);
     assert!(rt; ccsuite_builder_next(alloc, &mut builder, &mut out, &mut written) == 0);
-    assert!(rt; (written, out[160]) == (160, 0xAA));
+    assert!(rt; written == 160 && out[160] == 0xAA);
     assert!(rt; ccsuite_builder_next(alloc, &mut builder, &mut out, &mut written) == 33);
 }
 
@@ -163,7 +163,7 @@ fn a_closed_builder_says_so(rt: HostRuntime) {
     let mut out = [0xAA; 524];
     let mut written = 9;
     assert!(rt; ccsuite_builder_open(alloc, b"x", &mut builder, &mut report) == 6);
-    assert!(rt; (report.rec, report.field) == (1, 1));
+    assert!(rt; report.rec == 1 && report.field == 1);
     ccsuite_builder_close(alloc, &mut builder);
     ccsuite_builder_close(alloc, &mut builder);
     assert!(rt; ccsuite_builder_next(alloc, &mut builder, &mut out, &mut written) == 32);
@@ -190,9 +190,9 @@ fn a_receiver_is_fed(rt: HostRuntime) {
     let mut receiver = opened(alloc, true);
     let mut fed = UNFED;
     assert!(rt; ccsuite_receiver_feed(alloc, &mut receiver, &built(alloc), &mut fed) == 0);
-    assert!(rt; (fed.used, fed.ended) == (160, 2));
+    assert!(rt; fed.used == 160 && fed.ended == 2);
     assert!(rt; ccsuite_receiver_feed(alloc, &mut receiver, &[0xFF, 0xFF], &mut fed) == 6);
-    assert!(rt; (fed.used, fed.place, fed.ended, fed.why) == (0, 160, 0, 9));
+    assert!(rt; fed.used == 0 && fed.place == 160 && fed.ended == 0 && fed.why == 9);
     ccsuite_receiver_close(alloc, &mut receiver);
     assert!(rt; ccsuite_receiver_feed(alloc, &mut receiver, &[0xFF, 0xFF], &mut fed) == 32);
 }
@@ -206,7 +206,7 @@ fn words_may_end_behind_a_packet(rt: HostRuntime) {
     assert!(rt; ccsuite_receiver_finish(alloc, &mut receiver, &mut fed) == 0);
     assert!(rt; ccsuite_receiver_feed(alloc, &mut receiver, &words[..7], &mut fed) == 0);
     assert!(rt; ccsuite_receiver_finish(alloc, &mut receiver, &mut fed) == 6);
-    assert!(rt; (fed.used, fed.place, fed.ended, fed.why) == (0, 7, 0, 13));
+    assert!(rt; fed.used == 0 && fed.place == 7 && fed.ended == 0 && fed.why == 13);
     assert!(rt; ccsuite_receiver_feed(alloc, &mut receiver, &words[7..], &mut fed) == 0);
     assert!(rt; ccsuite_receiver_finish(alloc, &mut receiver, &mut fed) == 0);
 }
@@ -302,7 +302,7 @@ fn a_window_is_told_or_that_there_is_none(rt: HostRuntime) {
     assert!(rt; ccsuite_receiver_window(alloc, &mut receiver, 64, 0, &mut window) == 1);
     assert!(rt; ccsuite_receiver_window_cell(alloc, &mut receiver, 1, 0, 15, 63, &mut cell) == 35);
     assert!(rt; ccsuite_receiver_window_cell(alloc, &mut receiver, 1, 0, 16, 0, &mut cell) == 1);
-    assert!(rt; (window.rows, cell.ch) == (9, 9));
+    assert!(rt; window.rows == 9 && cell.ch == 9);
 }
 
 #[test]
@@ -314,7 +314,7 @@ fn a_verifier_finds_and_tells(rt: HostRuntime) {
     assert!(rt; ccsuite_verifier_open(alloc, b"ccsuite,1,30,1\n", &mut verifier, &mut report) == 0);
     assert!(rt; ccsuite_verifier_feed(alloc, &mut verifier, &built(alloc), &mut fed) == 9);
     assert!(rt; ccsuite_verifier_verdict(alloc, &mut verifier, &mut report) == 9);
-    assert!(rt; (report.why, report.frame, report.expected, report.seen) == (44, 0, 5, 4));
+    assert!(rt; report.why == 44 && report.frame == 0 && report.expected == 5 && report.seen == 4);
     assert!(rt; ccsuite_receiver_finish(alloc, &mut verifier, &mut fed) == 32);
     ccsuite_verifier_close(alloc, &mut verifier);
     assert!(rt; ccsuite_verifier_verdict(alloc, &mut verifier, &mut report) == 32);

@@ -80,8 +80,7 @@ fn ends(
 ) -> Result<(), AllocError> {
     for piece in [1, 7, 100_000] {
         let (ended, put) = run(rt, alloc, parts, piece)?;
-        assert!(rt; ended == status);
-        assert!(rt; put.as_slice() == words(counters).as_slice());
+        assert!(rt; ended == status && put.as_slice() == words(counters).as_slice());
     }
     Ok(())
 }
@@ -307,7 +306,8 @@ fn a_limit_of_frames_is_passed(rt: HostRuntime) -> Result<(), AllocError> {
         ],
         1000,
     )?;
-    assert!(rt; status == Status::Limit(LimitOf::Frames));
-    assert!(rt; put.as_slice() == words(&[0, 0]).as_slice());
+    assert!(rt;
+        status == Status::Limit(LimitOf::Frames) && put.as_slice() == words(&[0, 0]).as_slice()
+    );
     Ok(())
 }

@@ -54,8 +54,8 @@ fn what_changed_is_told_once(rt: HostRuntime) -> Result<(), Fail> {
     let shown = receiving.reception().cell(Chan::Cc1, 15, 1);
     assert!(rt;
         matches!(shown, Some(cell) if cell.ch == 'I' && cell.style.colour == Colour::White)
+            && receiving.reception().window(1, 0).is_none()
     );
-    assert!(rt; receiving.reception().window(1, 0).is_none());
     Ok(())
 }
 
@@ -86,8 +86,12 @@ fn words_are_verified_up_to_the_first_finding(rt: HostRuntime) -> Result<(), Fai
         assert!(rt; wrong.feed(&words) == answer);
     }
     assert!(rt; !building.next(&mut ArrayVec::new()));
-    assert!(rt; (right.verdict(), right.finding()) == (Status::Ok, None));
-    assert!(rt; (wrong.verdict(), wrong.finding()) == (Status::Differs(found), Some(found)));
+    assert!(rt;
+        right.verdict() == Status::Ok
+            && right.finding().is_none()
+            && wrong.verdict() == Status::Differs(found)
+            && wrong.finding() == Some(found)
+    );
     Ok(())
 }
 
@@ -104,7 +108,7 @@ fn a_frame_that_is_missing_is_counted(rt: HostRuntime) -> Result<(), Fail> {
     assert!(rt; receiving.feed(&first) == Ok(FRAME));
     assert!(rt; receiving.feed(&third) == Ok(FRAME));
     let reception = receiving.reception();
-    assert!(rt; reception.frames() == 2 && (reception.number(), reception.missing()) == (2, 1));
+    assert!(rt; reception.frames() == 2 && reception.number() == 2 && reception.missing() == 1);
     Ok(())
 }
 
@@ -115,7 +119,7 @@ fn a_word_above_3ff_is_refused_from_then_on(rt: HostRuntime) -> Result<(), Fail>
         used: 2,
         ended: Ended::No,
     };
-    assert!(rt; receiving.reception().finish() == Ok(()));
+    assert!(rt; receiving.reception().finish().is_ok());
     assert!(rt; receiving.feed(&[0x00, 0x00]) == Ok(read));
     let cut_short = Refusal {
         place: 2,
@@ -157,8 +161,10 @@ fn a_refused_list_is_answered_with_its_status(rt: HostRuntime) {
             None,
         ),
     ] {
-        assert!(rt; Building::read(rt.alloc(), list).err() == Some(builder));
-        assert!(rt; Verifying::read(rt.alloc(), list).err() == verifier);
+        assert!(rt;
+            Building::read(rt.alloc(), list).err() == Some(builder)
+                && Verifying::read(rt.alloc(), list).err() == verifier
+        );
     }
 }
 

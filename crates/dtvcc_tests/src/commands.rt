@@ -394,8 +394,8 @@ fn commands_are_written_without_bits_that_have_no_meaning(rt: HostRuntime) {
             && write_command(&Cw(7)).as_slice() == &[0x87][..]
             && write_command(&Dly(5)).as_slice() == &[0x8D, 0x05][..]
             && write_command(&Dlc).as_slice() == &[0x8E][..]
+            && write_command(&Spa(PLAIN)).as_slice() == &[0x90, 0x05, 0x00][..]
     );
-    assert!(rt; write_command(&Spa(PLAIN)).as_slice() == &[0x90, 0x05, 0x00][..]);
     let location = Spl { row: 11, col: 41 };
     assert!(rt; write_command(&location).as_slice() == &[0x92, 0x0B, 0x29][..]);
     let definition = [0x98, 0x18, 0x3C, 0x32, 0x00, 0x09, 0x09];

@@ -41,18 +41,28 @@ fn bytes_go_to_their_services_alone(rt: HostRuntime) -> Result<(), AllocError> {
     assert!(rt; !services.is_touched());
     send(&mut services, 1, SHOWN);
     send(&mut services, 63, HIDDEN);
-    assert!(rt; services.is_touched());
-    assert!(rt; has(&services, 1, 0) && !has(&services, 1, 1));
-    assert!(rt; has(&services, 63, 1) && !has(&services, 63, 0));
-    assert!(rt; services.is_used(1) && services.is_used(63) && !services.is_used(2));
+    assert!(rt;
+        services.is_touched()
+            && has(&services, 1, 0)
+            && !has(&services, 1, 1)
+            && has(&services, 63, 1)
+            && !has(&services, 63, 0)
+            && services.is_used(1)
+            && services.is_used(63)
+            && !services.is_used(2)
+    );
     tick(&mut services);
     send(&mut services, 63, b"BC");
     assert!(rt; !services.is_touched());
     send(&mut services, 1, b"B");
     assert!(rt; services.is_touched());
     services.reset();
-    assert!(rt; !services.is_used(1) && !has(&services, 1, 0) && !has(&services, 63, 1));
-    assert!(rt; services.frames() == 2);
+    assert!(rt;
+        !services.is_used(1)
+            && !has(&services, 1, 0)
+            && !has(&services, 63, 1)
+            && services.frames() == 2
+    );
     Ok(())
 }
 
@@ -68,9 +78,11 @@ fn delays_end_in_their_frames(rt: HostRuntime) -> Result<(), AllocError> {
     assert!(rt; services.held(5) == 8);
     for frame in 2..9u8 {
         tick(&mut services);
-        assert!(rt; has(&services, 5, 0) == (frame >= 4));
-        assert!(rt; has(&services, 6, 0) == (frame >= 7));
-        assert!(rt; services.is_touched() == (frame == 4 || frame == 7));
+        assert!(rt;
+            has(&services, 5, 0) == (frame >= 4)
+                && has(&services, 6, 0) == (frame >= 7)
+                && services.is_touched() == (frame == 4 || frame == 7)
+        );
     }
     assert!(rt; services.held(5) == 0);
     Ok(())

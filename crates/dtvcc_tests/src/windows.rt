@@ -541,8 +541,7 @@ fn styles_of_a_definition(rt: HostRuntime) -> Result<(), AllocError> {
         (2, 'C', pen_style(6)),
     ];
     for (col, ch, (pen, colors)) in pens {
-        assert!(rt; window.live());
-        assert!(rt; window.cell(0, col) == Some(DCell { ch, pen, colors }));
+        assert!(rt; window.live() && window.cell(0, col) == Some(DCell { ch, pen, colors }));
     }
     Ok(())
 }
@@ -576,9 +575,11 @@ fn characters_keep_the_pen_that_wrote_them(rt: HostRuntime) -> Result<(), AllocE
         (2, 'C', slanted, red),
     ];
     for (col, ch, pen, colors) in wanted {
-        assert!(rt; window.live());
-        assert!(rt; window.cell(0, col) == Some(DCell { ch, pen, colors }));
-        assert!(rt; window.attributes() == window_style(1));
+        assert!(rt;
+            window.live()
+                && window.cell(0, col) == Some(DCell { ch, pen, colors })
+                && window.attributes() == window_style(1)
+        );
     }
     Ok(())
 }
@@ -605,8 +606,12 @@ fn windows_are_there_from_define_to_delete(rt: HostRuntime) -> Result<(), AllocE
     window.delete();
     assert!(rt; !window.live());
     window.define(&definition(2, 4, 0, 0));
-    assert!(rt; window.live() && window.visible() && window.attributes() == window_style(1));
-    assert!(rt; has(&window, &["....", "...."]));
+    assert!(rt;
+        window.live()
+            && window.visible()
+            && window.attributes() == window_style(1)
+            && has(&window, &["....", "...."])
+    );
     Ok(())
 }
 

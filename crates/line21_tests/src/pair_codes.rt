@@ -180,14 +180,17 @@ fn captions_are_written_as_caption_files_have_them(rt: HostRuntime) {
         second: false,
         control: Control::Rcl,
     };
-    assert!(rt; write_code(rcl, false) == pair(0x94, 0x20));
-    assert!(rt; write_code(rcl, true) == pair(0x15, 0x20));
+    assert!(rt;
+        write_code(rcl, false) == pair(0x94, 0x20) && write_code(rcl, true) == pair(0x15, 0x20)
+    );
     let second = Code::Control {
         second: true,
         control: Control::Rcl,
     };
-    assert!(rt; write_code(second, false) == pair(0x1C, 0x20));
-    assert!(rt; write_code(second, true) == pair(0x9D, 0x20));
+    assert!(rt;
+        write_code(second, false) == pair(0x1C, 0x20)
+            && write_code(second, true) == pair(0x9D, 0x20)
+    );
     let three = Code::Control {
         second: false,
         control: Control::Ru(3),
@@ -207,10 +210,12 @@ fn captions_are_written_as_caption_files_have_them(rt: HostRuntime) {
         second: false,
         control: Control::Tab(1),
     };
-    assert!(rt; write_code(tab, false) == pair(0x97, 0xA1));
-    assert!(rt; write_code(Code::Null, false) == pair(0x80, 0x80));
-    assert!(rt; write_code(Code::Text(0x48, 0x45), false) == pair(0xC8, 0x45));
-    assert!(rt; write_code(Code::Xds(0x01, 0x03), true) == pair(0x01, 0x83));
+    assert!(rt;
+        write_code(tab, false) == pair(0x97, 0xA1)
+            && write_code(Code::Null, false) == pair(0x80, 0x80)
+            && write_code(Code::Text(0x48, 0x45), false) == pair(0xC8, 0x45)
+            && write_code(Code::Xds(0x01, 0x03), true) == pair(0x01, 0x83)
+    );
 }
 
 #[test]
@@ -228,15 +233,13 @@ fn styles_and_characters_are_written_as_caption_files_have_them(rt: HostRuntime)
             },
             false
         ) == pair(0x94, 0x70)
-    );
-    assert!(rt;
-        write_code(
-            Code::Control {
-                second: false,
-                control: bottom
-            },
-            true
-        ) == pair(0x94, 0x70)
+            && write_code(
+                Code::Control {
+                    second: false,
+                    control: bottom
+                },
+                true
+            ) == pair(0x94, 0x70)
     );
     let indented = Control::Preamble {
         row: 2,
@@ -377,9 +380,7 @@ fn bytes_show_their_characters(rt: HostRuntime) {
             && basic_char(0x80).is_none()
             && special_char(0x37) == Some('♪')
             && special_char(0x39).is_none()
-    );
-    assert!(rt;
-        special_char(0x40).is_none()
+            && special_char(0x40).is_none()
             && extended_char(0x12, 0x29) == Some('\'')
             && extended_char(0x13, 0x3F) == Some('┘')
             && extended_char(0x14, 0x20).is_none()
@@ -419,9 +420,11 @@ fn every_second_equal_control_pair_is_ignored(rt: HostRuntime) {
 
 #[test]
 fn control_codes_are_sent_twice(rt: HostRuntime) {
-    assert!(rt; control(Control::Edm).is_doubled());
-    assert!(rt; control(Control::Skipped).is_doubled());
-    assert!(rt; !Code::Text(0x41, 0x42).is_doubled());
-    assert!(rt; pair(0x10, 0x20).is_control());
-    assert!(rt; !pair(0x14, 0x20).is_control());
+    assert!(rt;
+        control(Control::Edm).is_doubled()
+            && control(Control::Skipped).is_doubled()
+            && !Code::Text(0x41, 0x42).is_doubled()
+            && pair(0x10, 0x20).is_control()
+            && !pair(0x14, 0x20).is_control()
+    );
 }

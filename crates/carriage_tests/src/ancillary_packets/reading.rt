@@ -77,7 +77,8 @@ fn a_packet_is_read_in_any_pieces(rt: HostRuntime) {
     for size in [1, 2, 159, 160] {
         let (answer, end, seen) = read(first_packet().as_slice(), size);
         assert!(rt;
-            (answer, end) == (Ok(()), Ok(()))
+            answer.is_ok()
+                && end.is_ok()
                 && seen.starts.as_slice() == &[0x61, 0x01, 73][..]
                 && seen.ends == 1
                 && seen.users.len() == 73,
@@ -142,14 +143,14 @@ fn user_words_of_other_packets_are_free(rt: HostRuntime) {
     let packet = bytes_of(&[&words[..]]);
     let (answer, end, seen) = read(packet.as_slice(), 5);
     assert!(rt;
-        (answer, end) == (Ok(()), Ok(())) && (seen.users.as_slice(), seen.ends) == (&[0x200][..], 1)
+        answer.is_ok() && end.is_ok() && seen.users.as_slice() == &[0x200][..] && seen.ends == 1
     );
 
     // 0x161 + 0x102 + 0x101 + 0x3FF is 0x163 modulo 0x200
     let free = with_word(with_word(packet.as_slice(), 6, 0x3FF).as_slice(), 7, 0x163);
     let (answer, end, seen) = read(free.as_slice(), 16);
     assert!(rt;
-        (answer, end) == (Ok(()), Ok(())) && (seen.users.as_slice(), seen.ends) == (&[0x3FF][..], 1)
+        answer.is_ok() && end.is_ok() && seen.users.as_slice() == &[0x3FF][..] && seen.ends == 1
     );
 
     let (answer, _end, _seen) = read(with_word(packet.as_slice(), 4, 0x202).as_slice(), 16);
@@ -165,24 +166,24 @@ fn packets_stand_back_to_back(rt: HostRuntime) {
     let _ = bytes.try_extend_from_slice(bytes_of(&[&words[..]]).as_slice());
     let _ = bytes.try_extend_from_slice(first_packet().as_slice());
     let (answer, end, seen) = read(bytes.as_slice(), 7);
-    assert!(rt; (answer, end) == (Ok(()), Ok(())));
+    assert!(rt; answer.is_ok() && end.is_ok());
     let starts = [0x61, 0x01, 73, 0x61, 0x02, 0, 0x61, 0x01, 73];
-    assert!(rt; seen.starts.as_slice() == &starts[..] && (seen.users.len(), seen.ends) == (146, 3));
+    assert!(rt; seen.starts.as_slice() == &starts[..] && seen.users.len() == 146 && seen.ends == 3);
 }
 
 #[test]
 fn bytes_may_end_behind_a_packet_alone(rt: HostRuntime) {
     let packet = first_packet();
     let (answer, end, _seen) = read(&[], 1);
-    assert!(rt; (answer, end) == (Ok(()), Ok(())));
+    assert!(rt; answer.is_ok() && end.is_ok());
     for cut in [1, 2, 5, 12, 159] {
         let (answer, end, _seen) = read(&packet.as_slice()[..packet.len().min(cut)], 3);
-        assert!(rt; answer == Ok(()) && end == refusal(cut as u64, Why::Truncated));
+        assert!(rt; answer.is_ok() && end == refusal(cut as u64, Why::Truncated));
     }
     let mut longer = first_packet();
     let _ = longer.try_push(0xFF);
     let (answer, end, _seen) = read(longer.as_slice(), 161);
-    assert!(rt; (answer, end) == (Ok(()), refusal(161, Why::Truncated)));
+    assert!(rt; answer.is_ok() && end == refusal(161, Why::Truncated));
 }
 
 #[test]

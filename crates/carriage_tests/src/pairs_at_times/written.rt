@@ -64,9 +64,9 @@ fn each_stretch_is_a_line(rt: HostRuntime) -> Result<(), Fail> {
         (1800, TEXT),
         (4294967295, NULL),
     ] {
-        assert!(rt; writer.pair(frame, pair, &mut out) == Ok(()));
+        assert!(rt; writer.pair(frame, pair, &mut out).is_ok());
     }
-    assert!(rt; writer.finish(&mut out) == Ok(()));
+    assert!(rt; writer.finish(&mut out).is_ok());
     assert!(rt;
         out.bytes()
             == b"Scenarist_SCC V1.0\n\n01:00:00;00\t94ae 94ae\n\n01:00:00;03\tc849 c849\n\n01:00:00;20\t94ae\n\n01:00:59;28\tc849\n\n01:01:00;02\tc849\n\n".as_slice()
@@ -78,8 +78,8 @@ fn each_stretch_is_a_line(rt: HostRuntime) -> Result<(), Fail> {
 fn a_file_without_pairs_is_its_first_line(rt: HostRuntime) -> Result<(), Fail> {
     let mut out = sink(rt.alloc(), &[])?;
     let mut writer = begun(&rt, &mut out);
-    assert!(rt; writer.pair(7, NULL, &mut out) == Ok(()));
-    assert!(rt; writer.finish(&mut out) == Ok(()));
+    assert!(rt; writer.pair(7, NULL, &mut out).is_ok());
+    assert!(rt; writer.finish(&mut out).is_ok());
     assert!(rt; out.bytes() == b"Scenarist_SCC V1.0\n\n".as_slice());
     Ok(())
 }
@@ -88,8 +88,8 @@ fn a_file_without_pairs_is_its_first_line(rt: HostRuntime) -> Result<(), Fail> {
 fn a_pair_past_the_day_is_refused(rt: HostRuntime) -> Result<(), Fail> {
     let mut out = sink(rt.alloc(), &[])?;
     let mut writer = begun_late(&rt, &mut out);
-    assert!(rt; writer.pair(0, LOAD, &mut out) == Ok(()));
-    assert!(rt; writer.pair(1, NULL, &mut out) == Ok(()));
+    assert!(rt; writer.pair(0, LOAD, &mut out).is_ok());
+    assert!(rt; writer.pair(1, NULL, &mut out).is_ok());
     assert!(rt; writer.pair(2, TEXT, &mut out) == Err(SccPut::Day));
     assert!(rt; out.bytes() == b"Scenarist_SCC V1.0\n\n23:59:59:29\t94ae".as_slice());
     Ok(())

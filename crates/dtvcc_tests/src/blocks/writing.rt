@@ -23,7 +23,7 @@ fn blocks_are_appended(rt: HostRuntime) {
 fn the_longest_block_has_31_bytes(rt: HostRuntime) {
     let mut out: ArrayVec<u8, 33> = ArrayVec::new();
     write_block(8, &[0x41; 31], &mut out);
-    assert!(rt; (out.len(), out[0], out[1], out[32]) == (33, 0xFF, 0x08, 0x41));
+    assert!(rt; out.len() == 33 && out[0] == 0xFF && out[1] == 0x08 && out[32] == 0x41);
 }
 
 // The bytes of services that triplets carry, where none is refused.

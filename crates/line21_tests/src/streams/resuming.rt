@@ -110,7 +110,7 @@ fn any_pieces_are_read_alike(rt: HostRuntime) {
     for size in [1, 2, 3, 5, 100] {
         let (answer, tally) = feed_in_pieces(b"1,22,333,4", size);
         assert!(rt;
-            answer == Ok(()) && (tally.count, tally.digits) == (3, 10_002_200_333),
+            answer.is_ok() && tally.count == 3 && tally.digits == 10_002_200_333,
             "size {size}"
         );
 
@@ -120,7 +120,7 @@ fn any_pieces_are_read_alike(rt: HostRuntime) {
             why: Why::Field,
         };
         assert!(rt;
-            answer == Err(refusal) && (tally.count, tally.digits) == (1, 1),
+            answer == Err(refusal) && tally.count == 1 && tally.digits == 1,
             "size {size}"
         );
     }
@@ -135,7 +135,7 @@ fn a_refused_part_refuses_its_item(rt: HostRuntime) {
             why: Why::Clash,
         };
         assert!(rt;
-            answer == Err(refusal) && (tally.count, tally.digits) == (2, 100_013),
+            answer == Err(refusal) && tally.count == 2 && tally.digits == 100_013,
             "size {size}"
         );
     }
@@ -144,14 +144,14 @@ fn a_refused_part_refuses_its_item(rt: HostRuntime) {
 #[test]
 fn two_parts_come_in_order_up_to_a_refused_one(rt: HostRuntime) {
     let (answer, tally) = feed_in_pieces(b"7;8,", 3);
-    assert!(rt; answer == Ok(()) && (tally.count, tally.digits) == (3, 76_553_500_008));
+    assert!(rt; answer.is_ok() && tally.count == 3 && tally.digits == 76_553_500_008);
 
     let (answer, tally) = feed_in_pieces(b"13;8,", 3);
     let refusal = Refusal {
         place: 2,
         why: Why::Clash,
     };
-    assert!(rt; answer == Err(refusal) && (tally.count, tally.digits) == (1, 13));
+    assert!(rt; answer == Err(refusal) && tally.count == 1 && tally.digits == 13);
 }
 
 #[test]
@@ -160,14 +160,14 @@ fn two_pieces_are_one(rt: HostRuntime) {
     refusals_are_of_the_first_refused_item::<u8, u16>();
     let mut reader = new_reader();
     let mut tally = new_tally();
-    assert!(rt; feed_pieces(&mut reader, b"1,2", b"2,3,", &mut tally) == Ok(()));
-    assert!(rt; (tally.count, tally.digits) == (3, 10_002_200_003));
+    assert!(rt; feed_pieces(&mut reader, b"1,2", b"2,3,", &mut tally).is_ok());
+    assert!(rt; tally.count == 3 && tally.digits == 10_002_200_003);
     let refusal = Refusal {
         place: 6,
         why: Why::Field,
     };
     assert!(rt; feed_pieces(&mut reader, b" ", b"4,", &mut tally) == Err(refusal));
-    assert!(rt; (tally.count, tally.digits) == (3, 10_002_200_003));
+    assert!(rt; tally.count == 3 && tally.digits == 10_002_200_003);
 }
 
 #[test]

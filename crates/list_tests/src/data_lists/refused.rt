@@ -63,7 +63,7 @@ fn are_refused(rt: &impl Abort, alloc: Global, cases: &[(&str, u32, u32)]) {
                 },
             ) => {
                 assert!(rt;
-                    (at, place) == (*rec, *field) && why == Why::Field,
+                    at == *rec && place == *field && why == Why::Field,
                     "{text:?}"
                 );
             }

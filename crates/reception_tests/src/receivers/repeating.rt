@@ -99,7 +99,7 @@ fn a_frame_beside_the_last_one_is_read(rt: HostRuntime) -> Result<(), AllocError
             for size in SIZES {
                 let front = &bytes.as_slice()[..320.min(bytes.len())];
                 let (receiver, answer) = fed(alloc, front, size)?;
-                assert!(rt; (answer, receiver.frames()) == (Ok(()), 2), "byte {at}");
+                assert!(rt; answer.is_ok() && receiver.frames() == 2, "byte {at}");
                 let want = sections_with(alloc, at, bits)?;
                 assert!(rt; receiver.frames() > 0);
                 assert!(rt; receiver.sections() == want.as_slice(), "byte {at}");
@@ -131,7 +131,7 @@ fn frames_like_one_another_are_read(rt: HostRuntime) -> Result<(), AllocError> {
             let bytes = file_with(alloc, at, bits)?;
             for size in SIZES {
                 let (receiver, answer) = fed(alloc, bytes.as_slice(), size)?;
-                assert!(rt; (answer, receiver.frames()) == (Ok(()), 4), "byte {at}");
+                assert!(rt; answer.is_ok() && receiver.frames() == 4, "byte {at}");
                 assert!(rt; receiver.frames() > 0);
                 assert!(rt;
                     receiver.counter() == 3
