@@ -401,7 +401,7 @@ fn line_behind(rt: &impl Abort, file: &[u8], bytes: &[u8]) -> Option<(u32, usize
 
 #[test]
 fn lines_are_read_in_one_go(rt: HostRuntime) {
-    let rows: [(&[u8], &[u8], (u32, usize, usize)); 11] = [
+    const ROWS: &[(&[u8], &[u8], (u32, usize, usize))] = &[
         (b"", b"00:00:00:00\t8001Z81\n", (0, 4, 20)),
         (b"", b"00:00:00:00\t8001Z81\r\n", (0, 4, 21)),
         (b"", b"00:00:00;05\t80010177f9\n", (5, 5, 23)),
@@ -426,7 +426,7 @@ fn lines_are_read_in_one_go(rt: HostRuntime) {
             (30, 5, 24),
         ),
     ];
-    for (before, bytes, line) in rows {
+    for &(before, bytes, line) in ROWS {
         assert!(rt; line_behind(&rt, &behind_head(before), bytes) == Some(line));
     }
     let file = b"File Format=MacCaption_MCC V2.0\nTime Code Rate=60DF\n";
@@ -437,7 +437,7 @@ fn lines_are_read_in_one_go(rt: HostRuntime) {
 // Lines that are blank, comments, attributes, cut or spelled otherwise, lines that offend, and lines that have begun.
 #[test]
 fn other_lines_are_not_read_in_one_go(rt: HostRuntime) {
-    let lines: [&[u8]; 32] = [
+    const LINES: &[&[u8]] = &[
         b"",
         b"\n",
         b"\r\n",
@@ -471,7 +471,7 @@ fn other_lines_are_not_read_in_one_go(rt: HostRuntime) {
         b"00:00:00:00\t80010177F9Z\n",
         b"00:00:00:00\t80010177F9\t\n",
     ];
-    for (row, bytes) in lines.iter().enumerate() {
+    for (row, bytes) in LINES.iter().enumerate() {
         assert!(rt;
             line_behind(&rt, &behind_head(b""), bytes).is_none(),
             "row {row}"

@@ -275,7 +275,7 @@ fn begins(rt: &impl Abort, text: &[u8], bytes: &[u8], rest: &[u8]) {
 // Each letter, digits of either case at both places, and texts on which no item goes on.
 #[test]
 fn payloads_are_read_in_one_go(rt: HostRuntime) {
-    let rows: [(&[u8], &[u8], &[u8]); 15] = [
+    const ROWS: &[(&[u8], &[u8], &[u8])] = &[
         (FRAME, &FRAME_BYTES, b""),
         (b"8001Z81", &[0x80, 0x01, 0, 0x81], b""),
         (b"8001Z81\n", &[0x80, 0x01, 0, 0x81], b"\n"),
@@ -306,7 +306,7 @@ fn payloads_are_read_in_one_go(rt: HostRuntime) {
             b"",
         ),
     ];
-    for (text, bytes, rest) in rows {
+    for &(text, bytes, rest) in ROWS {
         begins(&rt, text, bytes, rest);
     }
 }
@@ -314,7 +314,7 @@ fn payloads_are_read_in_one_go(rt: HostRuntime) {
 // Nine letters stand for triplets that don't count, and a packet of the most bytes leaves no room for an item more.
 #[test]
 fn fillers_are_read_in_one_go(rt: HostRuntime) {
-    let rows: [(&[u8], u8, u8); 10] = [
+    const ROWS: &[(&[u8], u8, u8)] = &[
         (b"800103G7E", 3, 0x7E),
         (b"800106H7B", 6, 0x7B),
         (b"800109I78", 9, 0x78),
@@ -326,7 +326,7 @@ fn fillers_are_read_in_one_go(rt: HostRuntime) {
         (b"80011BO66", 27, 0x66),
         (b"8001FFOOOOOOOOOJ82", 255, 0x82),
     ];
-    for (text, size, last) in rows {
+    for &(text, size, last) in ROWS {
         let mut bytes: ArrayVec<u8, 259> = ArrayVec::new();
         let _ = bytes.try_extend_from_slice(&[0x80, 0x01, size]);
         for _ in 0..size / 3 {
@@ -354,7 +354,7 @@ fn fillers_are_read_in_one_go(rt: HostRuntime) {
 // No whole packet, another checksum byte, a byte too many, or no item at the front.
 #[test]
 fn other_texts_are_not_read_in_one_go(rt: HostRuntime) {
-    let texts: [&[u8]; 28] = [
+    const TEXTS: &[&[u8]] = &[
         b"",
         b"8",
         b"80",
@@ -384,7 +384,7 @@ fn other_texts_are_not_read_in_one_go(rt: HostRuntime) {
         b"8001FFOOOOOOOOOJG",
         b"8001FFOOOOOOOOOO82",
     ];
-    for (row, text) in texts.iter().enumerate() {
+    for (row, text) in TEXTS.iter().enumerate() {
         assert!(rt; behind(text).is_none(), "row {row}");
     }
 }

@@ -187,7 +187,7 @@ fn drop_frame_leaves_out_four_numbers_at_60(rt: HostRuntime) {
 
 #[test]
 fn other_times_have_no_frame_at_a_rate(rt: HostRuntime) {
-    for (count, h, m, s, f) in [
+    const TIMES: &[(Counting, u8, u8, u8, u8)] = &[
         (Counting::F24, 0, 0, 0, 24),
         (Counting::F24, 24, 0, 0, 0),
         (Counting::F25, 0, 0, 0, 25),
@@ -204,7 +204,8 @@ fn other_times_have_no_frame_at_a_rate(rt: HostRuntime) {
         (Counting::F60Drop, 0, 9, 0, 2),
         (Counting::F60Drop, 23, 59, 0, 3),
         (Counting::F60Drop, 24, 0, 0, 0),
-    ] {
+    ];
+    for &(count, h, m, s, f) in TIMES {
         let drop_frame = false;
         assert!(rt;
             frame_in(

@@ -223,7 +223,7 @@ fn offences_are_told(rt: HostRuntime) -> Result<(), AllocError> {
 #[test]
 fn lines_offend_between_others(rt: HostRuntime) -> Result<(), AllocError> {
     // the second line begins at 95, behind 12 bytes of a time code and a tab and 28 of a payload and a line feed, and its payload at 107
-    let rows: [(&str, &str, u64, Why); 8] = [
+    const ROWS: &[(&str, &str, u64, Why)] = &[
         ("00:01:00;00\t", P0, 95, Why::NoSuchTime),
         ("00:00:00:01 ", P0, 106, Why::MccSyntax),
         ("00:00:00:01\t", "T49S4", 112, Why::MccSyntax),
@@ -248,7 +248,7 @@ fn lines_offend_between_others(rt: HostRuntime) -> Result<(), AllocError> {
             Why::Sum,
         ),
     ];
-    for (time, payload, place, why) in rows {
+    for &(time, payload, place, why) in ROWS {
         let parts = [
             HEAD,
             "00:00:00:00\t",

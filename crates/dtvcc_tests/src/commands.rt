@@ -357,7 +357,7 @@ const G2: [(char, u8); 24] = [
 
 #[test]
 fn characters_are_spelled_by_the_first_code_set_that_has_them(rt: HostRuntime) {
-    for (ch, code) in [
+    const BASIC: &[(char, u8)] = &[
         (' ', 0x20),
         ('A', 0x41),
         ('_', 0x5F),
@@ -367,7 +367,8 @@ fn characters_are_spelled_by_the_first_code_set_that_has_them(rt: HostRuntime) {
         ('\u{A0}', 0xA0),
         ('é', 0xE9),
         ('ÿ', 0xFF),
-    ] {
+    ];
+    for &(ch, code) in BASIC {
         let spelling = spell_dtv(ch).expect(&rt, "a character of G0 or G1");
         assert!(rt; spelling.as_slice() == &[code][..], "{ch:?}");
     }

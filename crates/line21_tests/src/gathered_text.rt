@@ -22,7 +22,7 @@ fn a_text_longer_than_the_room_is_put_in_order(rt: HostRuntime) -> Result<(), Al
         bytes.len() == 150_013
             && bytes.starts_with(&[b'a'; 40_000])
             && bytes.ends_with(b"ll4294967295\xE2\x99\xAA")
-            && bytes[79_999..80_001] == *b"bl".as_slice()
+            && &bytes[79_999..80_001] == b"bl".as_slice()
     );
     Ok(())
 }

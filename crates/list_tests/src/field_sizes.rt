@@ -1,4 +1,5 @@
-use field_lanes::{Cursor, FieldChunk, FieldLane, PlacedField, PlacedUnit};
+use field_lanes::cursor::Cursor;
+use field_lanes::{FieldChunk, FieldLane, PlacedField, PlacedUnit};
 use line21_author::Event;
 use std::mem::size_of;
 use std::test::Fail;

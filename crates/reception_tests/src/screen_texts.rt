@@ -211,7 +211,7 @@ fn channels_stand_in_their_order(rt: HostRuntime) -> Result<(), AllocError> {
 #[test]
 fn changes_are_told_frame_by_frame(rt: HostRuntime) -> Result<(), AllocError> {
     let alloc = rt.alloc();
-    let frames: [(&[u16], &[u16], &[u8]); 8] = [
+    const FRAMES: &[(&[u16], &[u16], &[u8])] = &[
         (&[], &[], b""),
         (
             &[0x9429, 0x9470, 0xC180],
@@ -238,7 +238,7 @@ fn changes_are_told_frame_by_frame(rt: HostRuntime) -> Result<(), AllocError> {
     ];
     let mut receiver = Receiver::new(alloc)?;
     let mut put = Shown::new(alloc)?;
-    for (frame, (one, two, text)) in frames.iter().enumerate() {
+    for (frame, (one, two, text)) in FRAMES.iter().enumerate() {
         assert!(rt; feed_frame(alloc, &mut receiver, frame as u16, one, two)?);
         let mut sink = MemorySink::new(alloc, 1000, Vec::new(alloc))?;
         assert!(rt; put.put_changes(&receiver, frame as u32, &mut sink) == Put::Done);

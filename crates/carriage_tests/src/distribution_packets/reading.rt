@@ -112,7 +112,7 @@ fn with_byte(alloc: Global, bytes: &[u8], at: usize, byte: u8) -> Result<Vec<u8>
 
 #[test]
 fn a_byte_is_refused_at_its_place(rt: HostRuntime) -> Result<(), Fail> {
-    for (at, byte, why) in [
+    const CHANGES: &[(usize, u8, Why)] = &[
         (0, 0x95, Why::Identifier),
         (1, 0x68, Why::Identifier),
         (2, 0x48, Why::Length),
@@ -127,7 +127,8 @@ fn a_byte_is_refused_at_its_place(rt: HostRuntime) -> Result<(), Fail> {
         (70, 0x01, Why::Counter),
         (71, 0x01, Why::Counter),
         (72, 0xBE, Why::Sum),
-    ] {
+    ];
+    for &(at, byte, why) in CHANGES {
         let changed = with_byte(rt.alloc(), &WITHOUT_CAPTIONS, at, byte)?;
         for size in [1, 2, 159] {
             let (answer, _seen) = read(rt.alloc(), 73, changed.as_slice(), size)?;
@@ -155,7 +156,7 @@ fn read_sections(alloc: Global, room: u8, bytes: &[u8]) -> Result<Result<(), Ref
 
 #[test]
 fn ids_are_refused_where_no_sections_fit(rt: HostRuntime) -> Result<(), Fail> {
-    for (room, id, fits) in [
+    const IDS: &[(u8, u8, bool)] = &[
         (0, 0x71, false),
         (0, 0x74, true),
         (0, 0x75, false),
@@ -177,7 +178,8 @@ fn ids_are_refused_where_no_sections_fit(rt: HostRuntime) -> Result<(), Fail> {
         (7, 0x71, true),
         (244, 0x71, true),
         (244, 0x70, false),
-    ] {
+    ];
+    for &(room, id, fits) in IDS {
         let answer = read_sections(rt.alloc(), room, &[id])?;
         let expected = if fits {
             Ok(())
@@ -193,7 +195,7 @@ fn ids_are_refused_where_no_sections_fit(rt: HostRuntime) -> Result<(), Fail> {
 fn counts_are_refused_that_pass_the_sections_or_leave_one_byte(
     rt: HostRuntime,
 ) -> Result<(), Fail> {
-    for (room, id, count, fits) in [
+    const COUNTS: &[(u8, u8, u8, bool)] = &[
         (2, 0x72, 0xE0, true),
         (2, 0x72, 0xE1, false),
         (4, 0x72, 0xE0, true),
@@ -213,7 +215,8 @@ fn counts_are_refused_that_pass_the_sections_or_leave_one_byte(
         (244, 0xEF, 243, false),
         (244, 0xEF, 255, false),
         (5, 0x71, 0xFF, true),
-    ] {
+    ];
+    for &(room, id, count, fits) in COUNTS {
         let answer = read_sections(rt.alloc(), room, &[id, count])?;
         let expected = if fits { Ok(()) } else { refusal(8, Why::Count) };
         assert!(rt; answer == expected, "{id} {count} in {room}");
