@@ -8,6 +8,8 @@ mod dual_runs;
 #[cfg(test)]
 mod load_runs;
 #[cfg(test)]
+mod loads;
+#[cfg(test)]
 mod mcc_runs;
 #[cfg(test)]
 mod reports;

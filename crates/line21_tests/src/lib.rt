@@ -2,8 +2,6 @@
 #![tactic(auto)]
 
 #[cfg(test)]
-mod budgets;
-#[cfg(test)]
 mod cadences;
 #[cfg(test)]
 mod digits;

@@ -2,6 +2,8 @@
 #![tactic(auto)]
 
 #[cfg(test)]
+mod budgets;
+#[cfg(test)]
 mod carried_frames;
 #[cfg(test)]
 mod clashes;
@@ -17,8 +19,6 @@ mod field_sizes;
 mod fields;
 #[cfg(test)]
 mod list_rules;
-#[cfg(test)]
-mod loads;
 #[cfg(test)]
 mod overlaid_frames;
 #[cfg(test)]
