@@ -19,20 +19,19 @@ ANSWER = ("Rattle.ccsuite_cli.specs.Answer", "Answer")
 #   notions of cues are own;
 # - the words in which frames are written (frame_carrier) are a written form, as SCC files and printed cue lists are;
 # - the lines that commands put are forms of text, as those of grids are;
-# - that control pairs are sent twice (field_lanes) is the standards' rule for pairs;
+# - that control pairs are sent twice (in lanes) is the standards' rule for pairs;
 # - what a receiver holds behind pairs and bytes is a receiver's, though crates of laws say it;
 # - crates of commands join, all of them.
 KINDS = {
     "tables": "cc_base line21_codes dtvcc_codes findings hex_digits line21_slots",
-    "receivers": "line21_screen dtvcc_windows dtvcc_screen dtvcc_services cc_receiver cc_conceal line21_shown.Shown dtvcc_shown.Filling"
+    "receivers": "line21_screen dtvcc_windows dtvcc_screen dtvcc_services cc_receiver cc_conceal line21_shown.Shown windows_shown.Filling"
     " services_shown.Buffers",
-    "grammars": "cc_data channel_packets service_blocks cdp_packets anc_words words_files services_files record_files cue_form scc_files"
-    " mcc_payloads mcc_files time_codes xds_packets xds_lists cue_print window_texts grid_print cell_runs cue_types.Cues cue_types.Windows"
-    " cue_types.Shares frame_carrier.FrameTriplets frame_carrier.Carrying"
-    " field_lanes.DoubledPairs cue_list_commands.Lines words_commands.Screens words_commands.PacketLines"
+    "grammars": "cc_data channel_packets service_blocks cdp_packets anc_words words_files services_files cue_form scc_files mcc_files"
+    " time_codes xds_packets xds_lists grid_print cue_types.Cues cue_types.Windows cue_types.Shares frame_carrier.FrameTriplets"
+    " frame_carrier.Carrying lanes.DoubledPairs cue_list_commands.Lines words_commands.Screens words_commands.PacketLines"
     " words_commands.ConcealedScreens",
-    "glue": "command_base side_files programmes programme_runs cue_list_commands words_reading words_commands verify_commands insert_commands"
-    " inserted_words dual_commands xds_commands scc_commands mcc_export mcc_import convert_commands load_commands ccsuite_cli",
+    "glue": "command_base frame_carrier.Framing cue_list_commands words_reading words_commands verify_commands insert_commands dual_commands"
+    " xds_commands scc_commands mcc_commands convert_commands load_commands.LoadAnswer load_commands.LoadOutput ccsuite_cli",
 }
 WIDE = 100
 # the first line of each file of definitions
