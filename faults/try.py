@@ -67,7 +67,7 @@ class Case:
         return bool(self.words) and self.words[0] in streaming
 
     def __str__(self):
-        return f"{' '.join(self.words)} on {len(self.given)} bytes"
+        return f"{' '.join(self.words)!a} on {len(self.given)} bytes"
 
 
 # ---- Running ---------------------------------------------------------------------------------------------------------------------
@@ -380,7 +380,7 @@ def with_field_two(words, pairs):
 def commands():
     """Each command with its cases, and the sizes of the pieces in which they are read."""
     usage = b"usage: ccsuite pairs|build|decode|show FRAME|verify CUES|insert CUES|import|export TIME|cues|load N|dual CUES|xds PACKETS|xds-show|conceal|convert|import-mcc|export-mcc RATE TIME\n"
-    yield "usage", [Case(it, b"x", 1, usage) for it in ([], ["load", "0"], ["load", "03"], ["show"], ["show", "01"], ["pairs", "x"], ["xds-show", "x"], ["conceal", "x"], ["convert", "x"], ["import-mcc", "x"], ["export-mcc", "30", "00:00:00;00"])], []
+    yield "usage", [Case(it, b"x", 1, usage) for it in ([], ["load", "0"], ["load", "03"], ["show"], ["show", "01"], ["pairs", "x"], ["xds-show", "x"], ["conceal", "x"], ["convert", "x"], ["import-mcc", "x"], ["export-mcc", "30", "00:00:00;00"], ["pairs", "\udcff"])], []
     hello = example("hello.csv")
     dense = hello.replace(b",0,7,20", b",0,6,20")
     clash = hello.replace(b",0,7,20", b",0,7,8")

@@ -50,6 +50,8 @@ pub enum Line<'a> {
     Run(&'a str, char),
     /// A run of these words, whose output is then held.
     Feed(&'a str),
+    /// The last output is held.
+    Hold,
     /// So many of the first bytes of the last output become the output that is due.
     Keep(usize),
     /// Parts of the last output.
@@ -88,6 +90,7 @@ fn read_word(word: &str) -> Option<Line<'static>> {
     match word {
         "side" => Some(Line::Side),
         "due" => Some(Line::Due),
+        "hold" => Some(Line::Hold),
         "silent" => Some(Line::Silent),
         "run" => Some(Line::RunAlone),
         "line" => Some(Line::Line("")),

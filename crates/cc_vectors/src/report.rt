@@ -74,13 +74,13 @@ pub fn put_bytes(report: &mut Vec<u8>, bytes: &[u8]) -> Result<(), AllocError> {
     }
 }
 
-/// Whether bytes are UTF-8 without control characters but line feeds.
+/// Whether bytes are UTF-8 without control characters but line feeds and tabs.
 fn is_text(bytes: &[u8]) -> bool {
     if str::from_utf8(bytes).is_err() {
         return false;
     }
     for byte in bytes {
-        if *byte != b'\n' && (*byte < b' ' || *byte == 0x7F) {
+        if *byte != b'\n' && *byte != b'\t' && (*byte < b' ' || *byte == 0x7F) {
             return false;
         }
     }

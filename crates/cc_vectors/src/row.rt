@@ -9,7 +9,7 @@ use std::alloc::{AllocError, Global};
 use std::mem;
 
 /// Why a line isn't done.
-#[derive(Debug, Drop)]
+#[derive(Drop)]
 pub enum Stop {
     /// It is no line of the rows, or has a number or digits that are none.
     Unread,
@@ -120,6 +120,7 @@ impl Row {
             Line::Due => self.due = Some(mem::replace(&mut self.held, Vec::new(alloc))),
             Line::Piece(size) => self.setting.piece = size,
             Line::Room(size) => self.setting.room = size,
+            Line::Hold => self.held = self.put.as_slice().to_vec(alloc)?,
             Line::Keep(size) => {
                 let front = self.put.get(..size).ok_or(Stop::Unread)?;
                 self.due = Some(front.to_vec(alloc)?);

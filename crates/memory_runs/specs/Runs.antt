@@ -1,6 +1,6 @@
 -- Between crates: the program's answer stands on none of these definitions.
 -- Runs over memory: what one is given, and that it ended as the program answers.
-use Rattle.std.specs.Prelude.{◌≡◌, ℕ, List, [], ◌∷◌, Option, Some, codes, map}
+use Rattle.std.specs.Prelude.{ℕ, List, [], Option, Some, map}
 use Rattle.cc_base.specs.MemorySink.{sink_faults, sink_written}
 use Rattle.command_base.specs.Ends.{ends}
 use Rattle.cue_list_commands.specs.SideEnds.{SideEnds, side_ends}
@@ -9,16 +9,6 @@ use Rattle.ccsuite_cli.specs.Command.{command_of}
 use Rattle.ccsuite_cli.specs.StatusLine.{PutsLine}
 use Rattle.memory_runs.specs.declared.given.Given.{Given}
 use Rattle.memory_runs.specs.declared.runs.Ended.{Ended}
-
--- these words and this text are given in pieces of a size, with an empty side file and no fault
-pub record IsPlain (words : List (List ℕ)) (text : List ℕ) (piece : ℕ) (given : Given) : Type 0 where
-  pub words_are : map (λ word. word.now) given.words.now ≡ words
-  pub text_is : given.text.now ≡ text
-  pub piece_is : given.piece ≡ piece
-  pub side_is : given.side.now ≡ []
-  pub side_stands : given.failing_side.now ≡ []
-  pub takes_stand : given.failing_takes.now ≡ []
-  pub puts_stand : given.failing_puts.now ≡ []
 
 -- the run of what is given ended so, and put this: as the program answers to its words, over the whole input and the whole side file
 pub record IsAnswered (given : Given) (ended : Ended) : Type 0 where
@@ -31,11 +21,3 @@ pub record IsAnswered (given : Given) (ended : Ended) : Type 0 where
 -- the line of its status was put to the error output, or a front of it where a put failed
 abbrev pub SaysStatus : Ended → Type 0
 SaysStatus ended = PutsLine (Some []) (Some (sink_written ended.err)) 0 (sink_faults ended.err) ended.status
-
--- the bytes are what a run of `build` on this list put, with no fault
-pub record IsBuilt (list : List ℕ) (words : List ℕ) : Type 0 where
-  pub given : Given
-  pub ended : Ended
-  pub is_build : IsPlain (codes "build" ∷ []) list 18446744073709551615 given
-  pub answered : IsAnswered given ended
-  pub put : sink_written ended.out ≡ words

@@ -1,6 +1,6 @@
 -- Between crates: the program's answer stands on none of these definitions.
 -- Words of packets that were made by hand, as bytes.
-use Rattle.std.specs.Prelude.{◌≡◌, ◌≢◌, ℕ, ◌+◌, ◌%◌, ◌<◌, List, [], ◌∷◌, ◌++◌}
+use Rattle.std.specs.Prelude.{◌≡◌, ℕ, ◌+◌, ◌%◌, ◌<◌, List, [], ◌∷◌, ◌++◌}
 use Rattle.std.specs.List.{sum}
 use Rattle.anc_words.specs.Writing.{packet_bytes}
 
@@ -14,12 +14,3 @@ pub record IsCaptionFrame (packet : List ℕ) (bytes : List ℕ) : Type 0 where
   pub last : ℕ
   pub is_last : IsLast packet last
   pub is : bytes ≡ packet_bytes 0x61 0x01 (packet ++ last ∷ [])
-
--- the bytes are these, but for another last one
-pub record EndsOtherwise (bytes : List ℕ) (wrong : List ℕ) : Type 0 where
-  pub front : List ℕ
-  pub last : ℕ
-  pub other : ℕ
-  pub is : bytes ≡ front ++ last ∷ []
-  pub wrong_is : wrong ≡ front ++ other ∷ []
-  pub differs : last ≢ other

@@ -1,7 +1,7 @@
 ghost use Rattle.std.specs.Prelude.{◌≡◌, IfOk, map, string_bytes};
-ghost use Rattle.memory_runs.specs.Runs.{IsAnswered, IsBuilt, SaysStatus};
+ghost use Rattle.memory_runs.specs.Runs.{IsAnswered, SaysStatus};
 
-use crate::given::{Given, build_of};
+use crate::given::Given;
 use cc_base::{MemorySink, MemorySource};
 use ccsuite_cli::{Status, run};
 use std::alloc::{AllocError, Global};
@@ -17,7 +17,7 @@ pub struct Ended {
     pub err: MemorySink,
 }
 
-/// The words of a command line. The error is want of memory.
+/// The words of a command line. The error is out of memory.
 pub fn words_of(alloc: Global, words: &[&str]) -> Result<Vec<String>, AllocError>
     ensures { IfOk result (λ all. map string_bytes all.items ≡ map (λ word. word.now) words.now) }
 {
@@ -28,7 +28,7 @@ pub fn words_of(alloc: Global, words: &[&str]) -> Result<Vec<String>, AllocError
     Ok(all)
 }
 
-/// Runs the program on what is given. The error is want of memory for the run's ends.
+/// Runs the program on what is given. The error is out of memory for the run's ends.
 pub fn run_to_end(alloc: Global, given: Given<'_>) -> Result<Ended, AllocError>
     ensures answer { IfOk result (IsAnswered given.entry) }
     ensures line { IfOk result SaysStatus }
@@ -48,12 +48,4 @@ pub fn run_to_end(alloc: Global, given: Given<'_>) -> Result<Ended, AllocError>
     let mut err = MemorySink::new(alloc, 200, given.failing_line.to_vec(alloc)?)?;
     let status = run(alloc, &words, &mut input, &mut side, &mut out, &mut err);
     Ok(Ended { status, out, err })
-}
-
-/// The words that `build` puts of a list. The error is want of memory.
-pub fn built_words(alloc: Global, list: &[u8]) -> Result<Vec<u8>, AllocError>
-    ensures { IfOk result (λ words. IsBuilt list.now words.items) }
-{
-    let built = run_to_end(alloc, build_of(list))?;
-    built.out.bytes().to_vec(alloc)
 }

@@ -1,7 +1,0 @@
-mod convert;
-mod insert;
-mod limits;
-mod mcc;
-mod mcc_imports;
-mod mcc_offences;
-mod scc;
