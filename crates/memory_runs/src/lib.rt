@@ -3,6 +3,7 @@
 
 pub use crate::given::Given;
 pub use crate::runs::{Ended, run_to_end, words_of};
+pub use ccsuite_cli::{Place, Status, run, run_without_words, side_of};
 
 mod given;
 mod runs;

@@ -1,7 +1,7 @@
 //! Words of a command line: which name a side file, and how a run ends whose words can't be read.
 
 use cc_base::MemorySink;
-use ccsuite_cli::{Status, run_without_words, side_of};
+use memory_runs::{Status, run_without_words, side_of};
 use std::io::ErrorKind;
 use std::test::Fail;
 

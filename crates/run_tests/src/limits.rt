@@ -4,9 +4,8 @@ ghost use Rattle.std.specs.Prelude.{None};
 
 use crate::given::given_of;
 use cc_base::{LimitOf, MemorySink, Source, SteadySource, Took, Why};
-use ccsuite_cli::{Place, Status, run};
 use memory_runs::words::bytes_of;
-use memory_runs::{Ended, Given, run_to_end, words_of};
+use memory_runs::{Ended, Given, Place, Status, run, run_to_end, words_of};
 use std::alloc::{AllocError, Global};
 use std::test::Fail;
 

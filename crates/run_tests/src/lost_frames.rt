@@ -9,12 +9,11 @@ ghost use Rattle.authored_places.specs.WindowSeen.{IsFormedCue};
 use crate::given::given_of;
 use authored_places::{Line, cell_at, window_differs};
 use cc_conceal::Concealer;
-use ccsuite_cli::Status;
 use cue_lists::lane::is_pop;
 use cue_lists::line21::{base_row, continues, is_on};
 use cue_lists::{Cue, CueList, Kind, check, parse};
 use line21_codes::Chan;
-use memory_runs::run_to_end;
+use memory_runs::{Status, run_to_end};
 use std::alloc::{AllocError, Global};
 use std::test::Fail;
 

@@ -3,10 +3,9 @@
 ghost use Rattle.std.specs.Prelude.{◌≤◌};
 
 use crate::given::given_of;
-use ccsuite_cli::Status;
 use line21_codes::{Cell, Colour, Pair, Style};
 use line21_screen::Field;
-use memory_runs::run_to_end;
+use memory_runs::{Status, run_to_end};
 use std::alloc::Global;
 use std::num::ParseIntError;
 use std::str;
