@@ -10,9 +10,8 @@ use crate::slice_source::SliceSource;
 use arrayvec::ArrayVec;
 use command_base::Status;
 use cue_list_commands::read_programme;
-use frame_carrier::Carrier;
+use frame_carrier::{Carrier, Programme};
 use frame_scheduler::{Frames, Plan};
-use programmes::Programme;
 use std::alloc::Global;
 
 /// The frames of an accepted cue list on their way to ancillary packets, one after another (SMPTE ST 291-1, ST 334-1 and ST 334-2).

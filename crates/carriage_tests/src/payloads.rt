@@ -1,6 +1,6 @@
 use arrayvec::ArrayVec;
 use cc_base::Why;
-use mcc_payloads::{PayloadReader, letter_bytes, write_payload};
+use mcc_files::{PayloadReader, letter_bytes, write_payload};
 use std::process::Abort;
 
 // The payload of a frame without captions at 29.97, and the bytes of its packet.

@@ -19,9 +19,9 @@ use Rattle.findings.specs.declared.finding.Kind45.TheVariants as kind
 use Rattle.findings.specs.declared.finding.Which.TheVariants as which
 use Rattle.line21_codes.specs.declared.channels.Chan.{Chan}
 use Rattle.line21_codes.specs.declared.channels.Chan.TheVariants as chan
-use Rattle.screen_checks.specs.Channels.{IsFirstOther}
-use Rattle.screen_checks.specs.Differing.{ShowsOtherWindow}
-use Rattle.screen_checks.specs.Services.{IsFirstOtherService}
+use Rattle.cc_verifier.specs.Channels.{IsFirstOther}
+use Rattle.cc_verifier.specs.Differing.{ShowsOtherWindow}
+use Rattle.cc_verifier.specs.Services.{IsFirstOtherService}
 use Rattle.words_files.specs.Received.{received_grids}
 use Rattle.cc_verifier.specs.Findings.{AreClean, FirstFinding, IsClean, IsFound, Jumps, Miscounts, Tried, place_of}
 use Rattle.cc_verifier.specs.Verifiers.{IsLastCounter}

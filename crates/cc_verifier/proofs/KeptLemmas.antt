@@ -1,14 +1,14 @@
 -- The cues of each channel of a list that keeps the rules are timed.
 use Rattle.std.proofs.Common.{ℕ, ◌≤◌, List, [], ◌∷◌, arith}
 use Rattle.std.specs.Prelude.{⊤}
-use Rattle.authored_places.specs.ChannelTimes.{AreCuesTimed}
-use Rattle.cue_rules.specs.Rules.{IsRuled}
-use Rattle.cue_rules.specs.Rules.Sentences.{AreInSequence}
+use Rattle.cc_verifier.specs.ChannelTimes.{AreCuesTimed}
+use Rattle.cue_lists.specs.Rules.{IsRuled}
+use Rattle.cue_lists.specs.Rules.Sentences.{AreInSequence}
 use Rattle.cue_types.specs.Channels.{cues_on}
 use Rattle.cue_types.specs.Listing.{Listing}
 use Rattle.cue_types.specs.declared.cue.Cue.{Cue}
 use Rattle.line21_slots.specs.Cadences.{slot_step}
-use Rattle.screen_checks.specs.Channels.{AreTimedAll}
+use Rattle.cc_verifier.specs.Channels.{AreTimedAll}
 
 -- the first of the cues, if there is one, isn't loaded before a frame
 abbrev BeginFrom : ℕ → List Cue → Type 0

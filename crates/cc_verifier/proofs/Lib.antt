@@ -1,3 +1,14 @@
+pub mod ChannelNewestLemmas
+pub mod ChannelCursorLemmas
+pub mod ChannelLineLemmas
+pub mod WindowPlaceLemmas
+pub mod WindowCursorLemmas
+pub mod WindowSeenLemmas
+pub mod WindowTurnLemmas
+pub mod AreaLemmas
+pub mod CheckLemmas
+pub mod ChannelsLemmas
+pub mod ServiceLemmas
 pub mod FindingLemmas
 pub mod KeptLemmas
 pub mod ScreenLemmas

@@ -4,11 +4,11 @@ use Rattle.std.specs.Prelude.{IsTrue, Option}
 use Rattle.cue_types.specs.declared.cue.Cue.{Cue}
 use Rattle.line21_codes.specs.declared.channels.Chan.{Chan}
 use Rattle.line21_screen.specs.Grid.{Grid}
-use Rattle.screen_checks.specs.Channels.{IsFirstOther, KnowAll, LeaveGrids}
-use Rattle.screen_checks.specs.Differing.{AllSeenWindows}
-use Rattle.screen_checks.specs.Services.{IsFirstOtherService, KnowServices, StandAt}
-use Rattle.screen_checks.specs.declared.channel_checks.ChannelChecks.{ChannelChecks}
-use Rattle.screen_checks.specs.declared.service_checks.ServiceChecks.{ServiceChecks}
+use Rattle.cc_verifier.specs.Channels.{IsFirstOther, KnowAll, LeaveGrids}
+use Rattle.cc_verifier.specs.Differing.{AllSeenWindows}
+use Rattle.cc_verifier.specs.Services.{IsFirstOtherService, KnowServices, StandAt}
+use Rattle.cc_verifier.specs.declared.channel_checks.ChannelChecks.{ChannelChecks}
+use Rattle.cc_verifier.specs.declared.service_checks.ServiceChecks.{ServiceChecks}
 
 -- an idle frame leaves it
 pub leave_idle : (is_idle : Bool) (former now : Chan → Grid) → (IsTrue is_idle → (channel : Chan) → now channel ≡ former channel) → LeaveGrids is_idle former now

@@ -14,7 +14,7 @@ use Rattle.findings.specs.declared.finding.Finding.{Finding}
 use Rattle.findings.specs.declared.finding.Kind45.{Kind45}
 use Rattle.findings.specs.declared.finding.Kind45.TheVariants as kind
 use Rattle.findings.specs.declared.finding.Which.TheVariants as which
-use Rattle.screen_checks.specs.Differing.{ShowsOther, ShowsOtherWindow}
+use Rattle.cc_verifier.specs.Differing.{ShowsOther, ShowsOtherWindow}
 use Rattle.words_files.specs.Received.{received_grids}
 
 -- the counter doesn't go on from that of the frame before

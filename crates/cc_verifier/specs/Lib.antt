@@ -1,2 +1,14 @@
+pub mod ChannelNewest
+pub mod ChannelLines
+pub mod ChannelTimes
+pub mod ChannelCursors
+pub mod WindowTurns
+pub mod WindowPlaces
+pub mod WindowCursors
+pub mod WindowSeen
+pub mod Differing
+pub mod Checks
+pub mod Channels
+pub mod Services
 pub mod Findings
 pub mod Verifiers

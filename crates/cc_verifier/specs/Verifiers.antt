@@ -13,10 +13,10 @@ use Rattle.findings.specs.declared.finding.Finding.{Finding}
 use Rattle.findings.specs.declared.finding.Kind45.{Kind45}
 use Rattle.line21_codes.specs.declared.channels.Chan.{Chan}
 use Rattle.line21_screen.specs.Grid.{Grid}
-use Rattle.screen_checks.specs.Channels.{AreReady, KnowAll}
-use Rattle.screen_checks.specs.Differing.{AllSeenWindows}
-use Rattle.screen_checks.specs.Services.{KnowServices, StandAt}
-use Rattle.authored_places.specs.WindowTurns.{AreAllInTurn}
+use Rattle.cc_verifier.specs.Channels.{AreReady, KnowAll}
+use Rattle.cc_verifier.specs.Differing.{AllSeenWindows}
+use Rattle.cc_verifier.specs.Services.{KnowServices, StandAt}
+use Rattle.cc_verifier.specs.WindowTurns.{AreAllInTurn}
 use Rattle.words_files.specs.FramesOf.{AreFramesOf}
 use Rattle.words_files.specs.Offences.{IsFileUnder, IsMalformed}
 use Rattle.words_files.specs.Received.{received_grids}

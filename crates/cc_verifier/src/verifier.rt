@@ -1,20 +1,20 @@
 ghost use Rattle.std.specs.Prelude.{◌≡◌, ◌<◌, ◌≤◌, ◌+◌, ◌++◌, ◌∷◌, [], ℕ, List, None, Some, IfOk, length, take};
 ghost use Rattle.cc_receiver.specs.Receivers.{HasReceived};
 ghost use Rattle.cdp_packets.specs.Packets.{Frame};
-ghost use Rattle.cue_rules.specs.Rules.{IsRuled};
-ghost use Rattle.screen_checks.specs.Differing.{AllSeenWindows};
+ghost use Rattle.cue_lists.specs.Rules.{IsRuled};
+ghost use Rattle.cc_verifier.specs.Differing.{AllSeenWindows};
 ghost use Rattle.cc_verifier.specs.Findings.{AreClean, Tried};
 ghost use Rattle.line21_screen.specs.Grid.{Grid as GridOf};
 ghost use Rattle.words_files.specs.FramesOf.{AreFramesOf};
 ghost use Rattle.words_files.specs.Offences.{IsFileUnder};
 ghost use Rattle.services_files.specs.CaptionChannel.{caption_channel};
 
+use crate::{ChannelChecks, ServiceChecks};
 use cc_base::Refusal;
 use cc_receiver::{Ended, Fed, Receiver};
 use cue_types::CueList;
 use findings::{Finding, Kind45, Which};
 use line21_codes::Chan;
-use screen_checks::{ChannelChecks, ServiceChecks};
 use std::alloc::{AllocError, Global};
 
 /// How words were judged.

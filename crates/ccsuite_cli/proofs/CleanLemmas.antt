@@ -16,7 +16,7 @@ use Rattle.cue_types.specs.declared.cue.Cue.{Cue}
 use Rattle.cue_types.specs.declared.cue.Kind.{Kind}
 use Rattle.cue_types.specs.declared.cue.Kind.TheVariants as kinds
 use Rattle.cue_types.specs.declared.cue.Run.{Run}
-use Rattle.authored_grids.specs.AuthoredGrid.{authored_grid, blank}
+use Rattle.cue_lists.specs.AuthoredGrid.{authored_grid, blank}
 use Rattle.dtvcc_services.specs.Numbers.{IsService}
 use Rattle.findings.specs.declared.finding.Kind45.TheVariants as kind
 use Rattle.findings.specs.declared.finding.Which.TheVariants as which
@@ -28,13 +28,13 @@ use Rattle.line21_codes.specs.declared.channels.Chan.{Chan}
 use Rattle.line21_codes.specs.declared.channels.Chan.TheVariants.{Cc1, Cc2, Cc3, Cc4}
 use Rattle.line21_screen.specs.Grid.{Grid}
 use Rattle.line21_shown.specs.Shown.{ShowsList}
-use Rattle.screen_checks.specs.Differing.{ShowsOther, ShowsOtherWindow}
+use Rattle.cc_verifier.specs.Differing.{ShowsOther, ShowsOtherWindow}
 use Rattle.services_files.specs.Events.{service_events}
 use Rattle.services_shown.specs.Buffers.{BuffersNeverFill}
 use Rattle.services_shown.specs.SeenWindows.{ShowAuthoredWindows}
 use Rattle.services_shown.proofs.ToldLemmas.{packets_count}
 use Rattle.dtvcc_screen.specs.Meaning.{start}
-use Rattle.dtvcc_shown.specs.Filling.{AllFill}
+use Rattle.windows_shown.specs.Filling.{AllFill}
 use Rattle.words_files.specs.Received.{received_at, received_grids}
 use Rattle.ccsuite_cli.proofs.FilledLemmas.{none_filled}
 use Rattle.ccsuite_cli.proofs.SeenLemmas.{front_is}

@@ -17,7 +17,7 @@ use Rattle.cc_receiver.proofs.SeenLemmas.{windows_received}
 use Rattle.cc_receiver.proofs.TakenLemmas.{frames_count}
 use Rattle.dtvcc_screen.specs.Meaning.{start}
 use Rattle.dtvcc_services.specs.Numbers.{IsService}
-use Rattle.dtvcc_shown.specs.Filling.{AllFill}
+use Rattle.windows_shown.specs.Filling.{AllFill}
 use Rattle.services_files.specs.Events.{service_events}
 use Rattle.services_files.specs.CaptionChannel.{caption_channel}
 use Rattle.services_files.proofs.ChannelFiles.{got_frames}
@@ -30,13 +30,13 @@ use Rattle.cc_receiver.specs.SeenServices.{seen_windows}
 use Rattle.cc_receiver.specs.declared.receiver.Receiver.{Receiver}
 use Rattle.dual_commands.proofs.SoundLemmas.{sound_dual}
 use Rattle.dual_commands.specs.DualWords.{dual_framing}
-use Rattle.dual_frames.specs.DualShown.{dual_grids, dual_told}
-use Rattle.programmes.specs.Framing.{packets_of, words_of}
-use Rattle.inserted_words.proofs.SoundLemmas.{insertions_sound}
-use Rattle.inserted_words.specs.Soundness.{HaveCaptions}
-use Rattle.inserted_words.specs.Soundness.HaveCaptions.{none, more}
+use Rattle.dual_plans.specs.DualShown.{dual_grids, dual_told}
+use Rattle.frame_carrier.specs.Framing.{packets_of, words_of}
+use Rattle.insert_commands.proofs.SoundLemmas.{insertions_sound}
+use Rattle.insert_commands.specs.Soundness.{HaveCaptions}
+use Rattle.insert_commands.specs.Soundness.HaveCaptions.{none, more}
 use Rattle.services_shown.specs.Buffers.{BuffersNeverFill}
-use Rattle.sound_frames.specs.Showing.{Grids, ShowsFrames, Telling, WindowsShown}
+use Rattle.services_shown.specs.Showing.{Grids, ShowsFrames, Telling, WindowsShown}
 use Rattle.ccsuite_cli.specs.Seen.{BuiltWordsAreSeen, DualWordsAreSeen, InsertedWordsAreSeen, IsSeenAsAuthored}
 use Rattle.ccsuite_cli.proofs.FilledLemmas.{none_filled}
 

@@ -16,9 +16,9 @@ use Rattle.words_commands.proofs.WordsVerdictLemmas.{changes_long, changes_refus
 use Rattle.words_commands.specs.ConcealedScreens.{concealed_changes}
 use Rattle.words_commands.specs.PacketLines.{packet_lines}
 use Rattle.words_commands.specs.Screens.{changes_of}
-use Rattle.mcc_export.proofs.VerdictLemmas.{mcc_told}
-use Rattle.mcc_export.specs.ExportMcc.{start_at}
-use Rattle.mcc_import.proofs.VerdictLemmas.{import_mcc_told}
+use Rattle.mcc_commands.proofs.ExportVerdictLemmas.{mcc_told}
+use Rattle.mcc_commands.specs.ExportMcc.{start_at}
+use Rattle.mcc_commands.proofs.ImportVerdictLemmas.{import_mcc_told}
 use Rattle.ccsuite_cli.specs.Verdict.{AcceptedIsAnswered, FaultsAreTold, FileIsDecoded, LongWordsAreRefused, MalformedIsRefused, RefusedListIsAnswered}
 use Rattle.ccsuite_cli.specs.declared.command.Command.TheVariants.{Build, Conceal, Convert, Cues, Decode, Dual, Export, ExportMcc, Import, ImportMcc, Insert, Load, Pairs, Show, Verify, Xds, XdsShow}
 use Rattle.xds_commands.proofs.VerdictLemmas.{faults_told as xds_told}

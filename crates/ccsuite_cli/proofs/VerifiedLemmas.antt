@@ -11,14 +11,14 @@ use Rattle.line21_codes.specs.declared.channels.FieldNumber.TheVariants.{One, Tw
 use Rattle.line21_shown.specs.Shown.{ShowsList}
 use Rattle.services_shown.proofs.RoomLemmas.{frames_roomy}
 use Rattle.services_shown.proofs.ToldLemmas.{packets_count}
-use Rattle.sound_frames.specs.Showing.{ShowsFrames}
-use Rattle.sound_frames.specs.Sound.{IsSoundFrames}
+use Rattle.services_shown.specs.Showing.{ShowsFrames}
+use Rattle.services_shown.specs.Sound.{IsSoundFrames}
 use Rattle.verify_commands.specs.VerifyVerdict.{AreVerified}
 use Rattle.words_files.specs.Received.{received_at}
 use Rattle.cue_list_commands.specs.Output.{PlacedList, list_grids, list_told, list_windows}
 use Rattle.cue_list_commands.proofs.Outputs.{sound_words}
-use Rattle.xds_beside_captions.proofs.XdsLemmas.{packets_leave_sound}
-use Rattle.xds_beside_captions.specs.XdsFrames.{AreSendable, IsSoundBeside, xds_columns}
+use Rattle.xds_frames.proofs.XdsLemmas.{packets_leave_sound}
+use Rattle.xds_frames.specs.XdsFrames.{AreSendable, IsSoundBeside, xds_columns}
 use Rattle.xds_commands.proofs.MadeLemmas.{listed_packets}
 use Rattle.xds_commands.proofs.SoundLemmas.{sound_placed}
 use Rattle.xds_commands.specs.XdsWords.{IsSoundXds}

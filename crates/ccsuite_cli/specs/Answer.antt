@@ -19,8 +19,8 @@ use Rattle.dual_commands.specs.DualAnswer.{DualAnswer}
 use Rattle.convert_commands.specs.ConvertAnswer.{ConvertAnswer}
 use Rattle.ccsuite_cli.specs.declared.command.Command.{Command}
 use Rattle.ccsuite_cli.specs.declared.command.Command.TheVariants.{Build, Conceal, Convert, Cues, Decode, Dual, Export, ExportMcc, Import, ImportMcc, Insert, Load, Pairs, Show, Verify, Xds, XdsShow}
-use Rattle.mcc_export.specs.ExportMcc.{ExportMccAnswer, start_at}
-use Rattle.mcc_import.specs.ImportMcc.{ImportMccAnswer}
+use Rattle.mcc_commands.specs.ExportMcc.{ExportMccAnswer, start_at}
+use Rattle.mcc_commands.specs.ImportMcc.{ImportMccAnswer}
 use Rattle.xds_commands.specs.XdsAnswer.{XdsAnswer}
 
 -- what a run answers: by its side file too, where its command reads one, and else it leaves that

@@ -3,7 +3,7 @@
 use Rattle.std.specs.Prelude.{◌≡◌, ◌≤◌, ◌++◌, ◌&&◌, not, ℕ, List, [], ◌∷◌, map, Option, option_map, Some, None, codes, if◌then◌else◌, Bool, true, false, ⊤}
 use Rattle.std.specs.Option.{option_and_then}
 use Rattle.cue_lists.specs.Fields.{named, number_within}
-use Rattle.load_lists.specs.LoadList.{most_load}
+use Rattle.load_commands.specs.LoadList.{most_load}
 use Rattle.time_codes.specs.Countings.{has_drop_frame, is_time_code_in}
 use Rattle.time_codes.specs.Texts.{time_of_text}
 use Rattle.time_codes.specs.TimeCodes.{is_time_code}

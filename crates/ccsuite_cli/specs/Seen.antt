@@ -2,7 +2,7 @@
 -- From the words that `build` puts of a cue list, `insert` with its captions, or `dual` of two lists, to the screens and the services of
 -- a receiver that is fed them: what is authored is what is seen, on line 21 and in the services.
 use Rattle.std.specs.Prelude.{◌≡◌, ◌++◌, ◌+◌, ◌<◌, ◌≤◌, ℕ, false, length, List, ◌∷◌}
-use Rattle.authored_grids.specs.AuthoredServiceGrid.{authored_windows}
+use Rattle.cue_lists.specs.AuthoredServiceGrid.{authored_windows}
 use Rattle.cc_receiver.specs.ReceivedServices.{fills_in}
 use Rattle.cc_receiver.specs.Receivers.{HasReceived, displayed_grid, frame_count}
 use Rattle.cc_receiver.specs.SeenServices.{seen_windows}
@@ -19,10 +19,10 @@ use Rattle.cue_list_commands.specs.Accepted.{IsAccepted}
 use Rattle.cue_list_commands.specs.Output.{build_output, list_framing}
 use Rattle.dual_commands.specs.DualLists.{IsPlacedBeside, PlacedLists}
 use Rattle.dual_commands.specs.DualWords.{dual_framing}
-use Rattle.programmes.specs.Framing.{words_of}
-use Rattle.inserted_words.specs.Captions.{captions_of}
-use Rattle.inserted_words.specs.InsertedFile.{AreInserted}
-use Rattle.inserted_words.specs.Soundness.{HaveRate}
+use Rattle.frame_carrier.specs.Framing.{words_of}
+use Rattle.insert_commands.specs.Captions.{captions_of}
+use Rattle.insert_commands.specs.InsertedFile.{AreInserted}
+use Rattle.insert_commands.specs.Soundness.{HaveRate}
 
 -- a receiver that was fed these words shows what a list authors at a frame: the authored grids on CC1 and CC3, where the frame is
 -- settled for the channel, nothing on CC2 and CC4, and of each service the authored windows; and in no frame of the words the

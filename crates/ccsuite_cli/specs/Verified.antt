@@ -5,7 +5,7 @@ use Rattle.cue_lists.specs.Listing.{Listing}
 use Rattle.frame_scheduler.specs.Planned.{Placement}
 use Rattle.cue_list_commands.specs.Accepted.{IsAccepted}
 use Rattle.cue_list_commands.specs.Output.{build_output}
-use Rattle.programmes.specs.Framing.{words_of}
+use Rattle.frame_carrier.specs.Framing.{words_of}
 use Rattle.verify_commands.specs.VerifyVerdict.{AreVerified}
 use Rattle.xds_commands.specs.PacketLists.{IsGoodPackets}
 use Rattle.xds_commands.specs.PlacedPackets.{IsPlacedWith, PlacedPackets}

@@ -2,12 +2,12 @@ ghost use Rattle.std.specs.Option.{option_copied};
 ghost use Rattle.std.specs.Prelude.{◌≡◌, ◌≤◌, [], ◌∷◌, IfSome, map, string_bytes, true};
 ghost use Rattle.ccsuite_cli.specs.Command.{IsRunnable, command_of, counting_of, has_side_file, is_marked, last_frame, side_path, start_in, start_of};
 ghost use Rattle.cue_lists.specs.Fields.{number_within};
-ghost use Rattle.load_lists.specs.LoadList.{most_load};
+ghost use Rattle.load_commands.specs.LoadList.{most_load};
 ghost use Rattle.time_codes.specs.Countings.{is_time_code_in};
 ghost use Rattle.time_codes.specs.TimeCodes.{is_time_code};
 
 use cue_lists::read_within;
-use load_lists::MOST_LOAD;
+use load_commands::MOST_LOAD;
 use time_codes::{Counting, TimeCode, frame_of, read_time};
 
 /// What the words of a command line ask for.

@@ -6,8 +6,7 @@ pub use crate::program::{perform, run};
 pub use crate::standard_streams::start;
 pub use crate::status_line::put_status;
 pub use crate::unread_words::run_without_words;
-pub use command_base::{Place, Status};
-pub use side_files::SideFile;
+pub use command_base::{Place, SideFile, Status};
 
 mod command;
 mod finding_line;

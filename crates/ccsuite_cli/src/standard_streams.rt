@@ -2,7 +2,7 @@ use crate::command::side_of;
 use crate::program::run;
 use crate::unread_words::run_without_words;
 use cc_base::{ReaderSource, WriterSink};
-use side_files::SideFile;
+use command_base::SideFile;
 use std::fs::File;
 use std::io::{Read, Stdin};
 use std::process::ExitCode;

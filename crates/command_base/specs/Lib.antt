@@ -1,3 +1,4 @@
+pub mod SideFiles
 pub mod Counts
 pub mod Ends
 pub mod MakesAnswer

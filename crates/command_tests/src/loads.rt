@@ -1,5 +1,5 @@
-use cue_print::print;
-use load_lists::load_list;
+use cue_form::print;
+use load_commands::load_list;
 use std::test::Fail;
 
 #[test]

@@ -2,7 +2,7 @@ use anc_words::write_packet;
 use arrayvec::ArrayVec;
 use cc_base::{LimitOf, MemorySink, MemorySource, Why};
 use command_base::{Place, Status};
-use mcc_import::run_import_mcc;
+use mcc_commands::run_import_mcc;
 use std::alloc::{AllocError, Global};
 use std::process::Abort;
 

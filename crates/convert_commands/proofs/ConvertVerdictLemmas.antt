@@ -10,7 +10,7 @@ use Rattle.command_base.specs.declared.status.Place.TheVariants.{Byte}
 use Rattle.command_base.specs.declared.status.Status.{Status}
 use Rattle.command_base.specs.declared.status.Status.TheVariants as status
 use Rattle.findings.specs.declared.misfit.Misfit.{Misfit}
-use Rattle.halved_frames.proofs.ConvertedFileLemmas.{converted_file}
+use Rattle.rate_convert.proofs.ConvertedFileLemmas.{converted_file}
 use Rattle.rate_convert.proofs.FitLemmas.{convertible_behind, fit_none}
 use Rattle.rate_convert.proofs.LawLemmas.{fit_keeps}
 use Rattle.rate_convert.proofs.OnceLemmas.{fit_among, misfit_once}

@@ -10,7 +10,7 @@ use Rattle.cc_receiver.specs.declared.receiver.Ended.TheVariants as ended
 use Rattle.cc_receiver.specs.declared.receiver.Fed.{Fed}
 use Rattle.cdp_packets.specs.Packets.{Frame}
 use Rattle.findings.specs.declared.misfit.Misfit.{Misfit}
-use Rattle.halved_frames.specs.Conversion.{conversion_bytes}
+use Rattle.rate_convert.specs.Conversion.{conversion_bytes}
 use Rattle.rate_convert.proofs.ConversionLemmas.{bytes_more}
 use Rattle.rate_convert.proofs.ConverterLemmas.{stands_behind}
 use Rattle.rate_convert.proofs.FitLemmas.{fit_none, fit_of_none}

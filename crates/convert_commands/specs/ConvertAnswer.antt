@@ -5,7 +5,7 @@ use Rattle.std.specs.Prelude.{ℕ, List}
 use Rattle.command_base.specs.Ends.{Ends}
 use Rattle.command_base.specs.declared.status.Status.{Status}
 use Rattle.command_base.specs.declared.status.Status.TheVariants as status
-use Rattle.halved_frames.specs.Conversion.{conversion_bytes}
+use Rattle.rate_convert.specs.Conversion.{conversion_bytes}
 use Rattle.rate_convert.specs.Misfits.{AreFit, IsMisfitAt}
 use Rattle.words_reading.specs.Answers.{FileAnswer}
 use Rattle.words_reading.specs.FrameTexts.{FramesHalt, FramesSay}

@@ -12,7 +12,7 @@ use Rattle.command_base.specs.declared.status.Place.TheVariants.{Byte}
 use Rattle.command_base.specs.declared.status.Status.{Status}
 use Rattle.command_base.specs.declared.status.Status.TheVariants as status
 use Rattle.findings.specs.declared.misfit.Misfit.{Misfit}
-use Rattle.halved_frames.specs.Conversion.{conversion, conversion_bytes}
+use Rattle.rate_convert.specs.Conversion.{conversion, conversion_bytes}
 use Rattle.rate_convert.specs.Laws.{KeepAllGrids}
 use Rattle.rate_convert.specs.Misfits.{AreFit, IsMisfitAt}
 use Rattle.services_files.specs.CaptionChannel.{caption_channel}

@@ -18,22 +18,22 @@ use Rattle.dtvcc_author.specs.declared.caption.Caption.{Caption}
 use Rattle.dtvcc_author.specs.declared.frame_events.Delay.{Delay}
 use Rattle.dtvcc_author.proofs.LatestLemmas.{Has}
 use Rattle.dtvcc_screen.specs.Meaning.{Event, start}
-use Rattle.dtvcc_shown.specs.ServiceLanes.{Lane, lane_frame_bytes, lane_frame_events}
-use Rattle.dtvcc_shown.proofs.CaptionLanesLemmas.{starting}
+use Rattle.windows_shown.specs.ServiceLanes.{Lane, lane_frame_bytes, lane_frame_events}
+use Rattle.windows_shown.proofs.CaptionLanesLemmas.{starting}
 use Rattle.frame_carrier.specs.Carrying.{column_packets}
 use Rattle.frame_scheduler.specs.Planned.{Placement, columns_of}
-use Rattle.halved_frames.specs.HalvedFrames.{AllHalves}
+use Rattle.rate_convert.specs.HalvedFrames.{AllHalves}
 use Rattle.services_shown.specs.PlacedServices.{AreServicesPlaced}
 use Rattle.services_shown.specs.Told.{told}
 use Rattle.services_shown.proofs.LeadingLemmas.{front_told, lane_is_sound, told_fills}
 use Rattle.windows_shown.specs.AuthoredShown.{list_lane}
 use Rattle.converted_lists.specs.SoundLanes.{lane_events}
-use Rattle.halved_frames.specs.GoodStreams.{IsGoodStream}
-use Rattle.halved_frames.specs.HalvedServices.{AreGood}
+use Rattle.rate_convert.specs.GoodStreams.{IsGoodStream}
+use Rattle.rate_convert.specs.HalvedServices.{AreGood}
 use Rattle.converted_lists.proofs.GoodStreamLemmas.{streams_good}
 use Rattle.converted_lists.proofs.SoundLaneLemmas.{lanes_good}
 use Rattle.converted_lists.specs.ConvertedLists.{HasShortDelay}
-use Rattle.halved_frames.proofs.DelayedLemmas.{delayed_same}
+use Rattle.rate_convert.proofs.DelayedLemmas.{delayed_same}
 
 captions_few : (r : Rate) (service : ℕ) (cues : List Cue) → All HasShortDelay cues → (c : Caption) → Has c (service_captions r service cues) → c.tenths ≤ 166
 captions_few r service [] few c has = absurd has

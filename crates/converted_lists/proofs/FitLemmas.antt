@@ -18,9 +18,9 @@ use Rattle.frame_carrier.specs.Carrying.{channel_packet_of, column_packets, fram
 use Rattle.frame_carrier.proofs.CarryingLemmas.{packet_few}
 use Rattle.frame_scheduler.specs.Columns.{Columns, pair_in}
 use Rattle.frame_scheduler.specs.Planned.{Placement, columns_of}
-use Rattle.halved_frames.specs.Conversion.{IsConvertible, conversion, is_of, of_field}
-use Rattle.halved_frames.specs.HalvedFrames.{AllHalves}
-use Rattle.halved_frames.proofs.ConvertedLemmas.{converted_halves}
+use Rattle.rate_convert.specs.Conversion.{IsConvertible, conversion, is_of, of_field}
+use Rattle.rate_convert.specs.HalvedFrames.{AllHalves}
+use Rattle.rate_convert.proofs.ConvertedLemmas.{converted_halves}
 use Rattle.line21_codes.specs.declared.channels.FieldNumber.{FieldNumber}
 use Rattle.line21_codes.specs.declared.pairs.Pair.{Pair}
 use Rattle.rate_convert.specs.Grids.{KeepsGrids}

@@ -6,11 +6,11 @@ use Rattle.dtvcc_codes.specs.Reading.{completed, open_after}
 use Rattle.dtvcc_screen.specs.declared.clock.Clock.{Clock}
 use Rattle.dtvcc_screen.specs.Cores.{CoreState, acted_if, after_tick, arrived, arrived_in, clean, held_more, is_cancel, is_due, is_reset, released}
 use Rattle.dtvcc_screen.specs.Meaning.{Byte, Event, Reset, Served, Tick, on_event, start}
-use Rattle.halved_frames.specs.HalvedServices.{AreGood, IsGood}
-use Rattle.dtvcc_shown.specs.Filling.{AllFill}
-use Rattle.halved_frames.specs.GoodStreams.{IsGoodStream}
+use Rattle.rate_convert.specs.HalvedServices.{AreGood, IsGood}
+use Rattle.windows_shown.specs.Filling.{AllFill}
+use Rattle.rate_convert.specs.GoodStreams.{IsGoodStream}
 use Rattle.converted_lists.specs.FilledStreams.{StreamsAreGood}
-use Rattle.halved_frames.proofs.HalvedServiceLemmas.{all_open}
+use Rattle.rate_convert.proofs.HalvedServiceLemmas.{all_open}
 
 released_front : (clock : Clock) (core : CoreState) → (released clock core).open_bytes ≡ core.open_bytes
 released_front clock core = ap (λ (x : CoreState). x.open_bytes) (all_open core.held clock (record core { until = None; held = [] }) core.open_bytes)

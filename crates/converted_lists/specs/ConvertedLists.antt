@@ -12,7 +12,7 @@ use Rattle.frame_carrier.specs.Carrying.{column_packets}
 use Rattle.frame_scheduler.specs.Planned.{Placement, columns_of}
 use Rattle.rate_convert.specs.Misfits.{AreFit}
 use Rattle.services_shown.specs.PlacedServices.{AreServicesPlaced}
-use Rattle.sound_frames.specs.Sound.{IsSoundFrames}
+use Rattle.services_shown.specs.Sound.{IsSoundFrames}
 
 -- a window cue has a delay of at most 166 tenths of a second; no other cue has one
 abbrev pub HasShortDelay : Cue → Type 0

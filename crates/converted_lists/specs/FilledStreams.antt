@@ -2,9 +2,9 @@
 -- Bytes and ticks that never fill the buffer of a service, of which each byte completes something good.
 use Rattle.std.specs.Prelude.{List, []}
 use Rattle.dtvcc_screen.specs.Meaning.{Event, start}
-use Rattle.dtvcc_shown.specs.Filling.{AllFill}
-use Rattle.halved_frames.specs.GoodStreams.{IsGoodStream}
-use Rattle.halved_frames.specs.HalvedServices.{AreGood}
+use Rattle.windows_shown.specs.Filling.{AllFill}
+use Rattle.rate_convert.specs.GoodStreams.{IsGoodStream}
+use Rattle.rate_convert.specs.HalvedServices.{AreGood}
 
 -- they are good for the service: what a byte completes rests on the bytes before it alone
 abbrev pub StreamsAreGood : Type 0

@@ -18,7 +18,7 @@ use Rattle.std.specs.Prelude.{find, option_map}
 use Rattle.dtvcc_codes.specs.Characters.{g2_characters}
 use Rattle.dtvcc_codes.specs.CharacterSpellings.{dtvcc_spelling as dtv_spelling_of}
 use Rattle.dtvcc_codes.specs.CodeTables.{ext1}
-use Rattle.record_files.proofs.Passing.{both_of, on_test}
+use Rattle.cue_form.proofs.Passing.{both_of, on_test}
 use Rattle.cue_form.specs.Form.{is_coded}
 use Rattle.cue_types.specs.Lane.{is_line21}
 use Rattle.cue_types.specs.declared.cue.Kind.{Kind}

@@ -18,7 +18,7 @@ use Rattle.cue_form.specs.Begun.{AreOfVersion, Begun, IsCueBegun, IsPlain, IsPla
 use Rattle.cue_form.specs.Fields.{fill_field, is_two_bits, named, number_within, pen_field, plain_words, rgb_field}
 use Rattle.cue_form.specs.Form.{cue_columns, first_row, is_coded, is_second, is_window, last_is_plain, last_row, run_pen_field, suits_row, version_words}
 use Rattle.cue_form.specs.Reading.{attributes_of, colours_of, next, read_from, run_of, spelled_list}
-use Rattle.record_files.specs.Records.{Record}
+use Rattle.cue_form.specs.Records.{Record}
 use Rattle.cue_form.specs.Spelling.{SpellsList, attribute_record, attribute_records, colour_record, colour_records, cue_record, cue_records, fill_word, head_record, pen_word, rgb_word, run_record, run_records, share_record, version_word, window_attribute_records, wrap_number}
 use Rattle.cue_types.specs.Coloured.{coloured}
 use Rattle.cue_types.specs.Cues.{IsCueFormed, IsOfKind}
@@ -39,7 +39,7 @@ use Rattle.cue_types.specs.declared.head.Version.TheVariants as version
 use Rattle.cue_types.specs.declared.list.Share.{Share}
 use Rattle.cue_form.proofs.CodedFacts.{coded_scalars, coded_tests, window_scalars, window_tests}
 use Rattle.cue_form.proofs.NumberFacts.{frame_field-decimal}
-use Rattle.record_files.proofs.NumberFacts.{number_field-decimal, number_within-decimal}
+use Rattle.cue_form.proofs.RecordNumberFacts.{number_field-decimal, number_within-decimal}
 use Rattle.cue_form.proofs.RecordFacts.{IsRunOf}
 use Rattle.cue_form.proofs.WordsRead.{channel_field-channel_name, frame_or_none_field-hide_word, pen_field-pen_word, rate_field-rate_word}
 

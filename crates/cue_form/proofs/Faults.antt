@@ -5,14 +5,14 @@ use Rattle.cue_form.specs.Begun.{Begun}
 use Rattle.cue_types.specs.Listing.{Listing}
 use Rattle.cue_form.specs.Reading.{in_record, next, read_from, spelled_list}
 use Rattle.cue_form.specs.FirstFault.{FaultsFirst}
-use Rattle.record_files.specs.Records.{Record}
+use Rattle.cue_form.specs.Records.{Record}
 use Rattle.cue_form.specs.Spelling.{SpellsList}
 use Rattle.cue_form.specs.declared.fault.CueFault.TheVariants as fault
 use Rattle.cue_form.proofs.Judged.{list_of_fault}
 use Rattle.cue_form.proofs.Spelled.{list_of_spelled}
 use Rattle.cue_form.specs.declared.fault.CueFault.{CueFault}
-use Rattle.record_files.specs.declared.offence.Offence.{Offence}
-use Rattle.record_files.specs.declared.offence.Offence.TheVariants as offence
+use Rattle.cue_form.specs.declared.offence.Offence.{Offence}
+use Rattle.cue_form.specs.declared.offence.Offence.TheVariants as offence
 
 -- the first record that is left is refused
 pub refused : (due : Result Listing CueFault) (b : Begun) (number : ℕ) (rows rest : List Record) (row : Record) (o : Offence) (f : CueFault)

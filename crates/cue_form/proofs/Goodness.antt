@@ -3,10 +3,10 @@ use Rattle.std.proofs.Common.{◌≡◌, true, List, [], ◌∷◌, Result, Ok, 
 use Rattle.cue_form.specs.Answers.{AnswersOffence}
 use Rattle.cue_form.specs.Judgements.{Judgement, first_offence}
 use Rattle.cue_form.specs.Reading.{judged_value, on_ok}
-use Rattle.record_files.specs.declared.offence.Offence.{Offence}
-use Rattle.record_files.specs.declared.offence.Offence.TheVariants as offence
-pub use Rattle.record_files.proofs.Goodness.{AllGood, good_of, judged_offence, offence_of}
-use Rattle.record_files.proofs.Passing.{on_test}
+use Rattle.cue_form.specs.declared.offence.Offence.{Offence}
+use Rattle.cue_form.specs.declared.offence.Offence.TheVariants as offence
+pub use Rattle.cue_form.proofs.RecordGoodness.{AllGood, good_of, judged_offence, offence_of}
+use Rattle.cue_form.proofs.Passing.{on_test}
 
 -- a part whose value is only carried on
 pub carried : {A B : Type 0} (part : Result A Offence) (rest : A → B) → offence_of (on_ok part (λ x. Ok (rest x))) ≡ offence_of part

@@ -7,7 +7,7 @@ use Rattle.cue_form.specs.FirstFault.{IsFirstFault, RecordsEndEarly}
 use Rattle.cue_form.specs.Judgements.{Judgement, attribute_judgements, colour_judgements, field_judgements, first_offence, head_judgements, judgements, last_judgements, rolled_judgements, room_at, room_judgement, run_judgements, share_judgements, shown_judgements, standing_judgement, window_judgements}
 use Rattle.cue_form.specs.Form.{record_kind_of}
 use Rattle.cue_form.specs.Reading.{adds, attributes_of, colours_of, cue_of, head_of, in_record, list_ended, next, opens, read_from, run_of, runs_on, share_record_of, spelled_list}
-use Rattle.record_files.specs.Records.{Record, field}
+use Rattle.cue_form.specs.Records.{Record, field}
 use Rattle.cue_types.specs.declared.cue.Cue.{Cue}
 use Rattle.cue_form.specs.declared.fault.CueFault.{CueFault}
 use Rattle.cue_form.specs.declared.fault.CueFault.TheVariants as malformed
@@ -15,7 +15,7 @@ use Rattle.cue_types.specs.declared.head.Head.{Head}
 use Rattle.cue_form.specs.declared.record_kind.RecordKind.{RecordKind}
 use Rattle.cue_form.specs.declared.record_kind.RecordKind.TheVariants as record_kind
 use Rattle.cue_form.proofs.Goodness.{behind, carried, judged_offence, offence_of}
-use Rattle.record_files.proofs.Passing.{on_part, on_test, on_value}
+use Rattle.cue_form.proofs.Passing.{on_part, on_test, on_value}
 use Rattle.cue_form.proofs.Spelled.{Read, read_more, read_nothing}
 
 runs_judged : (b : Begun) (last : Option Cue) (r : Record) → offence_of (runs_on b last r) ≡ first_offence (last_judgements last r)

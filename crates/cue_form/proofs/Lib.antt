@@ -1,4 +1,8 @@
-pub use Rattle.record_files.proofs.Passing
+pub mod FieldFacts
+pub mod RecordGoodness
+pub mod RecordNumberFacts
+pub mod Passing
+pub mod Rows
 pub mod CodedFacts
 pub mod Complete
 pub mod Faults
@@ -17,3 +21,5 @@ pub mod TextRun
 pub mod Unique
 pub mod WordFacts
 pub mod WordsRead
+pub mod InOrder
+pub mod PrintedFacts

@@ -8,17 +8,17 @@ use Rattle.cue_form.specs.Begun.{Begun, awaits_run, nothing}
 use Rattle.cue_form.specs.Form.{record_kind_of}
 use Rattle.cue_form.specs.Judgements.{Judgement, attribute_judgements, colour_judgements, head_judgements, rolled_judgements, room_at, room_judgement, run_judgements, share_judgements, shown_judgements, standing_judgement, window_judgements}
 use Rattle.cue_form.specs.Reading.{adds, attributes_of, colours_of, cue_of, head_of, judged_value, list_ended, next, next_of_kind, on_ok, opens, read_from, read_list, read_on, run_of, runs_on, share_record_of}
-use Rattle.record_files.specs.Records.{Record, field, records_of}
+use Rattle.cue_form.specs.Records.{Record, field, records_of}
 use Rattle.cue_types.specs.Listing.{Listing}
 use Rattle.cue_types.specs.declared.cue.Cue.{Cue}
 use Rattle.cue_form.specs.declared.fault.CueFault.{CueFault}
 use Rattle.cue_form.specs.declared.fault.CueFault.TheVariants as fault
 use Rattle.cue_types.specs.declared.head.Head.{Head}
-use Rattle.record_files.specs.declared.offence.Offence.{Offence}
-use Rattle.record_files.specs.declared.offence.Offence.TheVariants as offence
+use Rattle.cue_form.specs.declared.offence.Offence.{Offence}
+use Rattle.cue_form.specs.declared.offence.Offence.TheVariants as offence
 use Rattle.cue_form.specs.declared.record_kind.RecordKind.{RecordKind}
 use Rattle.cue_form.specs.declared.record_kind.RecordKind.TheVariants as record_kind
-use Rattle.record_files.proofs.Passing.{both_of, on_test}
+use Rattle.cue_form.proofs.Passing.{both_of, on_test}
 
 -- the limits that records can pass
 abbrev pub IsOfRecords : LimitOf → Type 0

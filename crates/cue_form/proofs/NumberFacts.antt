@@ -1,8 +1,8 @@
 -- Frames in fields: a field is read as a frame's number exactly where it is the number's decimal digits.
 use Rattle.std.proofs.Common.{◌≡◌, ℕ, ◌^◌, ◌<◌, Some, decimal, arith}
 use Rattle.cue_form.specs.Fields.{frame_field}
-use Rattle.record_files.proofs.NumberFacts.{number_within-decimal, within_passed}
-use Rattle.record_files.specs.Records.{Field}
+use Rattle.cue_form.proofs.RecordNumberFacts.{number_within-decimal, within_passed}
+use Rattle.cue_form.specs.Records.{Field}
 
 -- a frame
 pub frame_passed : (text : Field) (n : ℕ) → frame_field text ≡ Some n → (text ≡ decimal n) × (n < 2 ^ 32)

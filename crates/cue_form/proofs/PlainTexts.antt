@@ -6,10 +6,10 @@ use Rattle.std.specs.Str.{IsAscii}
 use Rattle.line21_codes.specs.Spellings.{spelling_of}
 use Rattle.line21_codes.proofs.Tables.{all_below, at_each}
 use Rattle.dtvcc_codes.specs.CharacterSpellings.{dtvcc_spelling as dtv_spelling_of}
-use Rattle.record_files.proofs.Passing.{both_of}
+use Rattle.cue_form.proofs.Passing.{both_of}
 use Rattle.cue_form.proofs.TextFacts.{text_good}
 use Rattle.cue_form.specs.Form.{cue_columns, is_coded}
-use Rattle.record_files.specs.Records.{Field}
+use Rattle.cue_form.specs.Records.{Field}
 use Rattle.cue_form.specs.Texts.{is_plain_byte, run_text_of}
 use Rattle.cue_types.specs.declared.cue.Kind.{Kind}
 use Rattle.cue_types.specs.declared.cue.Kind.TheVariants as kind

@@ -25,7 +25,7 @@ use Rattle.cue_form.specs.Fields.{channel_field, fill_field, frame_field, is_two
 use Rattle.cue_form.specs.Form.{cue_columns, first_row, frame_or_none_field, is_coded, last_row, run_pen_field, suits_row, version_words}
 use Rattle.cue_form.specs.Judgements.{attribute_judgements, colour_judgements, head_judgements, rolled_judgements, run_judgements, share_judgements, shown_judgements, window_judgements}
 use Rattle.cue_form.specs.Reading.{attributes_of, colours_of, cue_of, head_of, number, record_fill, rgb, rolled_cue_of, run_of, share_record_of, shown_cue_of, window_cue_of}
-use Rattle.record_files.specs.Records.{Field, Record, field}
+use Rattle.cue_form.specs.Records.{Field, Record, field}
 use Rattle.cue_form.specs.Spelling.{attribute_record, colour_record, cue_record, fill_word, head_record, hide_word, pen_word, rgb_word, run_record, share_record, wrap_number}
 use Rattle.cue_types.specs.declared.cue.Cue.{Cue}
 use Rattle.cue_types.specs.declared.cue.Kind.{Kind}
@@ -40,9 +40,9 @@ use Rattle.cue_form.specs.declared.record_kind.RecordKind.{RecordKind}
 use Rattle.cue_form.specs.declared.record_kind.RecordKind.TheVariants as record_kind
 use Rattle.cue_form.proofs.Goodness.{good_of}
 use Rattle.cue_form.proofs.NumberFacts.{frame_passed}
-use Rattle.record_files.proofs.FieldFacts.{field_is, fields_listed}
-use Rattle.record_files.proofs.NumberFacts.{number_good, number_passed, within_passed}
-use Rattle.record_files.proofs.Passing.{both_of, not_of, on_test, with_value}
+use Rattle.cue_form.proofs.FieldFacts.{field_is, fields_listed}
+use Rattle.cue_form.proofs.RecordNumberFacts.{number_good, number_passed, within_passed}
+use Rattle.cue_form.proofs.Passing.{both_of, not_of, on_test, with_value}
 use Rattle.cue_form.proofs.TextFacts.{TextPassed, text_passed}
 use Rattle.cue_form.proofs.WordFacts.{channel_passed, kind_word, pen_passed, rate_passed, version_passed, window_pen_passed}
 

@@ -12,7 +12,7 @@ use Rattle.cue_types.specs.Listing.{Listing}
 use Rattle.cue_form.specs.Form.{awaits_attributes, awaits_colours, is_bare_window, is_second, is_window, last_is_plain, may_stand, record_kind_of}
 use Rattle.cue_form.specs.Judgements.{room_at}
 use Rattle.cue_form.specs.Reading.{adds, attributes_of, colours_of, head_of, next, opens, read_from, run_of, share_record_of, spelled_list}
-use Rattle.record_files.specs.Records.{Record, field}
+use Rattle.cue_form.specs.Records.{Record, field}
 use Rattle.cue_form.specs.Spelling.{BeginsList, SpellsList, attribute_record, attribute_records, begun_records, colour_record, cue_record, cue_records, head_record, head_records, run_record, run_records, share_record}
 use Rattle.cue_types.specs.declared.cue.Cue.{Cue}
 use Rattle.cue_types.specs.declared.cue.Kind.{Kind}
@@ -22,7 +22,7 @@ use Rattle.cue_types.specs.declared.head.Head.{Head}
 use Rattle.cue_types.specs.declared.list.Share.{Share}
 use Rattle.cue_form.specs.declared.record_kind.RecordKind.{RecordKind}
 use Rattle.cue_form.specs.declared.record_kind.RecordKind.TheVariants as record_kind
-use Rattle.record_files.proofs.Passing.{both_of, denied, with_part, with_value}
+use Rattle.cue_form.proofs.Passing.{both_of, denied, with_part, with_value}
 use Rattle.cue_form.proofs.RecordFacts.{attributes_passed, colours_passed, head_passed, opens_cue, run_passed, share_passed}
 use Rattle.cue_form.proofs.Steps.{nothing_before, IsBegun-next, IsBegun-nothing, IsFormed-list_ended, headed, last_passes, next_passed, opens_passed}
 use Rattle.cue_form.proofs.WordFacts.{kind_passed}

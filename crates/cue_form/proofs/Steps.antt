@@ -19,7 +19,7 @@ use Rattle.cue_types.specs.Windows.{AreWindowAttributes, IsWindowRun}
 use Rattle.cue_form.specs.Form.{awaits_attributes, awaits_colours, is_second, is_window, last_is_plain, may_stand, record_kind_of, suits_row}
 use Rattle.cue_form.specs.Judgements.{room_at, room_judgement, standing_judgement}
 use Rattle.cue_form.specs.Reading.{adds, attributes_of, colours_of, cue_of, head_of, next, opens, run_of, share_record_of}
-use Rattle.record_files.specs.Records.{Record, field}
+use Rattle.cue_form.specs.Records.{Record, field}
 use Rattle.cue_types.specs.declared.cue.Cue.{Cue}
 use Rattle.cue_types.specs.declared.cue.Kind.{Kind}
 use Rattle.cue_types.specs.declared.cue.Kind.TheVariants as kind
@@ -31,7 +31,7 @@ use Rattle.cue_types.specs.declared.list.Share.{Share}
 use Rattle.cue_form.specs.declared.record_kind.RecordKind.{RecordKind}
 use Rattle.cue_form.specs.declared.record_kind.RecordKind.TheVariants as record_kind
 use Rattle.cue_form.proofs.Goodness.{passed_on}
-use Rattle.record_files.proofs.Passing.{both_of, not_of, with_part, with_value}
+use Rattle.cue_form.proofs.Passing.{both_of, not_of, with_part, with_value}
 use Rattle.cue_form.proofs.RecordFacts.{CuePassed, IsRunOf, attributes_passed, colours_passed, cue_passed, head_passed, opens_cue, run_passed, share_passed}
 
 -- a list without a record

@@ -6,12 +6,12 @@ use Rattle.std.proofs.lemmas.Str.{IsUtf8-from_is_utf8, encodes-chars, is_utf8-fr
 use Rattle.std.specs.List.{list_all}
 use Rattle.std.specs.Str.{is_utf8}
 use Rattle.cc_base.specs.declared.why.Why.TheVariants as why
-use Rattle.record_files.proofs.Passing.{both_of}
+use Rattle.cue_form.proofs.Passing.{both_of}
 use Rattle.cue_form.specs.Form.{cue_columns, is_coded}
-use Rattle.record_files.specs.Records.{Field}
+use Rattle.cue_form.specs.Records.{Field}
 use Rattle.cue_form.specs.Texts.{run_text_of}
 use Rattle.cue_types.specs.declared.cue.Kind.{Kind}
-use Rattle.record_files.specs.declared.offence.Offence.TheVariants as offence
+use Rattle.cue_form.specs.declared.offence.Offence.TheVariants as offence
 
 not_utf8 : (text : Field) → ¬ (IsUtf8 text) → is_utf8 text ≡ false
 not_utf8 text not = elim (cases_Bool (is_utf8 text)) [ inl e ↦ absurd (not (IsUtf8-from_is_utf8 text e)) | inr e ↦ e ]

@@ -6,14 +6,14 @@ use Rattle.cue_form.specs.Answers.{AnswersOffence}
 use Rattle.cue_form.specs.Fields.{number_within}
 use Rattle.cue_form.specs.Form.{cue_columns, first_row, is_coded, last_row, run_pen_field, suits_row}
 use Rattle.cue_form.specs.Reading.{on_ok, run_of}
-use Rattle.record_files.specs.Records.{Record, field}
+use Rattle.cue_form.specs.Records.{Record, field}
 use Rattle.cue_form.specs.Texts.{run_text_of}
 use Rattle.cue_types.specs.declared.cue.Kind.{Kind}
 use Rattle.cue_types.specs.declared.cue.Pen.{Pen}
 use Rattle.cue_types.specs.declared.cue.Run.{Run}
-use Rattle.record_files.specs.declared.offence.Offence.{Offence}
-use Rattle.record_files.specs.declared.offence.Offence.TheVariants as offence
-use Rattle.record_files.proofs.Passing.{on_test}
+use Rattle.cue_form.specs.declared.offence.Offence.{Offence}
+use Rattle.cue_form.specs.declared.offence.Offence.TheVariants as offence
+use Rattle.cue_form.proofs.Passing.{on_test}
 
 run_by_text : (k : Kind) (runs : List Run) (r : Record) (row col : ℕ) (p : Pen) → (length r == 5) ≡ true
     → number_within (first_row k) (last_row k) (field r 1) ≡ Some row → suits_row k runs row ≡ true

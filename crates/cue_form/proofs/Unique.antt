@@ -7,7 +7,7 @@ use Rattle.std.proofs.lemmas.List.Elements.{All-cons, All-nil, All-pop}
 use Rattle.cue_form.specs.Begun.{AreOfVersion, Begun, IsBegun, IsPlain, awaits_run, nothing}
 use Rattle.cue_form.specs.FirstFault.{IsFirstFault}
 use Rattle.cue_form.specs.Reading.{list_ended, next, read_from, spelled_list}
-use Rattle.record_files.specs.Records.{Record}
+use Rattle.cue_form.specs.Records.{Record}
 use Rattle.cue_form.specs.Spelling.{BeginsList, begun_records, cue_records, head_record, share_record}
 use Rattle.cue_types.specs.declared.cue.Cue.{Cue}
 use Rattle.cue_form.specs.declared.fault.CueFault.{CueFault}
@@ -15,7 +15,7 @@ use Rattle.cue_types.specs.declared.head.Head.{Head}
 use Rattle.cue_types.specs.declared.head.Version.{Version}
 use Rattle.cue_types.specs.declared.head.Version.TheVariants as version
 use Rattle.cue_types.specs.declared.list.Share.{Share}
-use Rattle.record_files.specs.declared.offence.Offence.{Offence}
+use Rattle.cue_form.specs.declared.offence.Offence.{Offence}
 use Rattle.cue_form.proofs.Complete.{LeadsTo, begun_of, cue_read, cues_read, front_read, leads_nowhere, leads_on}
 use Rattle.cue_form.proofs.Goodness.{offence_of}
 use Rattle.cue_form.proofs.Judged.{next_judged}

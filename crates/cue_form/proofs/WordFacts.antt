@@ -13,7 +13,7 @@ use Rattle.line21_codes.specs.Channels.{channel_name}
 use Rattle.cue_form.specs.Fields.{channel_field, channel_words, line21_words, named, pen_field, plain_pen_field, plain_words, rate_field, rate_words}
 use Rattle.cue_types.specs.Line21Cues.{IsAuthoredChannel, IsLine21Pen}
 use Rattle.cue_types.specs.Listing.{IsListRate}
-use Rattle.record_files.specs.Records.{Field}
+use Rattle.cue_form.specs.Records.{Field}
 use Rattle.cue_form.specs.Spelling.{pen_word, rate_word, version_word}
 use Rattle.cue_form.specs.Form.{kind_words, record_kind_of, version_words}
 use Rattle.cue_types.specs.Windows.{IsWindowPen}
@@ -22,7 +22,7 @@ use Rattle.cue_types.specs.declared.cue.Pen.TheVariants as pen
 use Rattle.cue_types.specs.declared.head.Version.{Version}
 use Rattle.cue_form.specs.declared.record_kind.RecordKind.{RecordKind}
 use Rattle.cue_form.specs.declared.record_kind.RecordKind.TheVariants as record_kind
-use Rattle.record_files.proofs.Passing.{with_value}
+use Rattle.cue_form.proofs.Passing.{with_value}
 
 -- a field that passed the test for a word is the word
 pub is_word : (text word : Field) → bytes_eq text word ≡ true → text ≡ word

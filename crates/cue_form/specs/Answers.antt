@@ -5,8 +5,8 @@ use Rattle.cue_form.specs.Begun.{Begun}
 use Rattle.cue_types.specs.Listing.{Listing}
 use Rattle.cue_form.specs.declared.fault.CueFault.{CueFault}
 use Rattle.cue_form.specs.declared.fault.CueFault.TheVariants as fault
-use Rattle.record_files.specs.declared.offence.Offence.{Offence}
-use Rattle.record_files.specs.declared.offence.Offence.TheVariants as offence
+use Rattle.cue_form.specs.declared.offence.Offence.{Offence}
+use Rattle.cue_form.specs.declared.offence.Offence.TheVariants as offence
 
 -- the offence that is due; want of memory may come in its place
 abbrev pub AnswersOffence : {A : Type 0} → Result A Offence → Offence → Type 0

@@ -12,8 +12,8 @@ use Rattle.dtvcc_codes.specs.declared.pens.Fill.{Fill}
 use Rattle.dtvcc_codes.specs.declared.pens.Rgb.{Rgb}
 use Rattle.cue_types.specs.declared.cue.Pen.{Pen}
 use Rattle.cue_types.specs.declared.cue.Pen.TheVariants as pen
-pub use Rattle.record_files.specs.Numbers.{number_field, number_within}
-use Rattle.record_files.specs.Records.{Field}
+pub use Rattle.cue_form.specs.Numbers.{number_field, number_within}
+use Rattle.cue_form.specs.Records.{Field}
 
 -- the number of a frame
 abbrev pub frame_field : Field → Option ℕ

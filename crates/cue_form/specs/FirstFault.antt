@@ -6,11 +6,11 @@ use Rattle.cc_base.specs.declared.why.Why.TheVariants as why
 use Rattle.cue_form.specs.Begun.{Begun, awaits_run}
 use Rattle.cue_form.specs.Judgements.{first_offence, judgements}
 use Rattle.cue_form.specs.Reading.{in_record}
-use Rattle.record_files.specs.Records.{Record}
+use Rattle.cue_form.specs.Records.{Record}
 use Rattle.cue_form.specs.Spelling.{BeginsList}
 use Rattle.cue_form.specs.declared.fault.CueFault.{CueFault}
 use Rattle.cue_form.specs.declared.fault.CueFault.TheVariants as malformed
-use Rattle.record_files.specs.declared.offence.Offence.{Offence}
+use Rattle.cue_form.specs.declared.offence.Offence.{Offence}
 
 -- the records before one begin a list, and it offends
 pub record OffendsIn (records : List Record) (fault : CueFault) : Type 0 where

@@ -7,7 +7,7 @@ use Rattle.dtvcc_codes.specs.CharacterSpellings.{dtvcc_spelling as dtv_spelling_
 use Rattle.cue_form.specs.Begun.{Begun, awaits_run, no_runs}
 use Rattle.cue_form.specs.Fields.{frame_field, named, pen_field, plain_words}
 use Rattle.cue_types.specs.Line21Cues.{base_row}
-use Rattle.record_files.specs.Records.{Field}
+use Rattle.cue_form.specs.Records.{Field}
 use Rattle.cue_types.specs.declared.cue.Cue.{Cue}
 use Rattle.cue_types.specs.declared.cue.Kind.{Kind}
 use Rattle.cue_types.specs.declared.cue.Kind.TheVariants as kind

@@ -11,8 +11,8 @@ use Rattle.cc_base.specs.Options.{passes}
 use Rattle.cue_form.specs.Begun.{Begun, cues_of}
 use Rattle.cue_form.specs.Fields.{channel_field, fill_field, frame_field, named, number_field, number_within, rate_field, rgb_field}
 use Rattle.cue_form.specs.Form.{cue_columns, first_row, frame_or_none_field, is_coded, last_row, may_stand, record_kind_of, run_pen_field, suits_row, version_words}
-pub use Rattle.record_files.specs.Judgements.{Judgement, count_judgement, first_offence, judge, within}
-use Rattle.record_files.specs.Records.{Record, field}
+pub use Rattle.cue_form.specs.RecordJudgements.{Judgement, count_judgement, first_offence, judge, within}
+use Rattle.cue_form.specs.Records.{Record, field}
 use Rattle.cue_types.specs.Listing.{most_cues, most_frames}
 use Rattle.cue_types.specs.Shares.{share_room, shares_taken}
 use Rattle.cue_types.specs.declared.cue.Cue.{Cue}
@@ -20,7 +20,7 @@ use Rattle.cue_types.specs.declared.cue.Kind.{Kind}
 use Rattle.cue_types.specs.declared.cue.Run.{Run}
 use Rattle.cue_types.specs.declared.head.Head.{Head}
 use Rattle.cue_types.specs.declared.list.Share.{Share}
-use Rattle.record_files.specs.declared.offence.Offence.TheVariants as offence
+use Rattle.cue_form.specs.declared.offence.Offence.TheVariants as offence
 use Rattle.cue_form.specs.declared.record_kind.RecordKind.{RecordKind}
 use Rattle.cue_form.specs.declared.record_kind.RecordKind.TheVariants as record_kind
 

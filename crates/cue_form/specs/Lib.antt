@@ -1,3 +1,6 @@
+pub mod RecordJudgements
+pub mod Numbers
+pub mod Records
 pub use Rattle.cue_types.specs.Channels
 pub use Rattle.cue_types.specs.Cues
 pub use Rattle.cue_types.specs.Lane
@@ -5,7 +8,6 @@ pub use Rattle.cue_types.specs.Line21Cues
 pub use Rattle.cue_types.specs.Listing
 pub use Rattle.cue_types.specs.Shares
 pub use Rattle.cue_types.specs.Windows
-pub use Rattle.record_files.specs.Records
 pub mod Answers
 pub mod Begun
 pub mod Fields
@@ -15,3 +17,4 @@ pub mod Judgements
 pub mod Reading
 pub mod Spelling
 pub mod Texts
+pub mod Printing

@@ -14,8 +14,8 @@ use Rattle.cue_form.specs.Begun.{Begun, nothing, cues_of, with_cue, cue_with_run
 use Rattle.cue_form.specs.Fields.{channel_field, fill_field, frame_field, named, number_field, rate_field, rgb_field}
 use Rattle.cue_form.specs.Form.{cue_columns, first_row, frame_or_none_field, last_row, record_kind_of, run_pen_field, version_words}
 use Rattle.cue_form.specs.Judgements.{attribute_judgements, colour_judgements, head_judgements, rolled_judgements, room_at, room_judgement, run_judgements, share_judgements, shown_judgements, standing_judgement, window_judgements}
-pub use Rattle.record_files.specs.Judgements.{judged_value, number, on_ok, unless}
-use Rattle.record_files.specs.Records.{Record, field, records_of}
+pub use Rattle.cue_form.specs.RecordJudgements.{judged_value, number, on_ok, unless}
+use Rattle.cue_form.specs.Records.{Record, field, records_of}
 use Rattle.cue_types.specs.Listing.{Listing}
 use Rattle.cue_types.specs.declared.cue.Cue.{Cue}
 use Rattle.cue_types.specs.declared.cue.Kind.{Kind}
@@ -27,8 +27,8 @@ use Rattle.cue_types.specs.declared.head.Version.TheVariants as version
 use Rattle.cue_types.specs.declared.list.Share.{Share}
 use Rattle.cue_form.specs.declared.fault.CueFault.{CueFault}
 use Rattle.cue_form.specs.declared.fault.CueFault.TheVariants as fault
-use Rattle.record_files.specs.declared.offence.Offence.{Offence}
-use Rattle.record_files.specs.declared.offence.Offence.TheVariants as offence
+use Rattle.cue_form.specs.declared.offence.Offence.{Offence}
+use Rattle.cue_form.specs.declared.offence.Offence.TheVariants as offence
 use Rattle.cue_form.specs.declared.record_kind.RecordKind.{RecordKind}
 use Rattle.cue_form.specs.declared.record_kind.RecordKind.TheVariants as record_kind
 

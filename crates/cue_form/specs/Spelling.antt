@@ -12,7 +12,7 @@ use Rattle.dtvcc_codes.specs.declared.pens.Rgb.{Rgb}
 use Rattle.dtvcc_codes.specs.declared.windows.WinAttr.{WinAttr}
 use Rattle.cue_form.specs.Begun.{AreOfVersion, Begun, IsBegun, cues_of}
 use Rattle.cue_types.specs.Listing.{Listing, IsFormed}
-use Rattle.record_files.specs.Records.{Field, Record}
+use Rattle.cue_form.specs.Records.{Field, Record}
 use Rattle.cue_types.specs.declared.cue.Cue.{Cue}
 use Rattle.cue_types.specs.declared.cue.Kind.{Kind}
 use Rattle.cue_types.specs.declared.cue.Kind.TheVariants as kind

@@ -6,10 +6,10 @@ use Rattle.std.specs.Str.{is_utf8}
 use Rattle.cc_base.specs.declared.why.Why.{Why}
 use Rattle.cc_base.specs.declared.why.Why.TheVariants as why
 use Rattle.cue_form.specs.Form.{cue_columns, is_coded}
-use Rattle.record_files.specs.Records.{Field}
+use Rattle.cue_form.specs.Records.{Field}
 use Rattle.cue_types.specs.declared.cue.Kind.{Kind}
-use Rattle.record_files.specs.declared.offence.Offence.{Offence}
-use Rattle.record_files.specs.declared.offence.Offence.TheVariants as offence
+use Rattle.cue_form.specs.declared.offence.Offence.{Offence}
+use Rattle.cue_form.specs.declared.offence.Offence.TheVariants as offence
 
 -- a character of ASCII that has a code in line 21 and in a service
 abbrev pub is_plain_byte : ℕ → Bool

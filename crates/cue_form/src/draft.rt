@@ -12,12 +12,12 @@ ghost use Rattle.cue_form.specs.Reading.{next, list_ended, adds, opens, runs_on,
 use crate::fault::{CueFault, in_record};
 use crate::record_kind::RecordKind;
 use crate::records::{read_attributes, read_colours, read_cue, read_head, read_run};
+use crate::{Offence, count_place, field, out_of_form, read_within};
 use cc_base::LimitOf;
 use csv::ByteRecord;
 use cue_types::lane::is_win;
 use cue_types::list::share_room;
 use cue_types::{Cue, CueList, Head, Kind, MOST_CUES, Run, Share, Version};
-use record_files::{Offence, count_place, field, out_of_form, read_within};
 use std::alloc::{AllocError, Global};
 use std::marker::Model;
 

@@ -1,8 +1,8 @@
 ghost use Rattle.std.specs.Prelude.{◌≡◌};
 ghost use Rattle.cue_form.specs.Reading.{in_record};
 
+use crate::Offence;
 use cc_base::{LimitOf, Why};
-use record_files::Offence;
 use std::alloc::AllocError;
 use thiserror::Error;
 

@@ -2,11 +2,11 @@ ghost use Rattle.std.specs.Prelude.{◌≡◌};
 ghost use Rattle.cue_form.specs.Fields.{frame_field, rate_field, channel_field, plain_pen_field, pen_field, fill_field, is_two_bits, named, plain_words, rgb_field};
 ghost use Rattle.cue_form.specs.Form.{version_words};
 
+use crate::{is_word, read_within};
 use cc_base::Rate;
 use cue_types::{Pen, Version};
 use dtvcc_codes::{Fill, Rgb};
 use line21_codes::{Chan, Colour, Style};
-use record_files::{is_word, read_within};
 
 /// The number of a frame, 0 to 4,294,967,295.
 pub fn read_frame(text: &[u8]) -> Option<u32>

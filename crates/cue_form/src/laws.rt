@@ -4,7 +4,7 @@ ghost use Rattle.std.specs.Prelude.{◌≡◌, Err, List, Ok};
 ghost use Rattle.cue_form.specs.FirstFault.{IsFirstFault};
 ghost use Rattle.cue_types.specs.Listing.{Listing};
 ghost use Rattle.cue_form.specs.Reading.{spelled_list};
-ghost use Rattle.record_files.specs.Records.{Record};
+ghost use Rattle.cue_form.specs.Records.{Record};
 ghost use Rattle.cue_form.specs.Spelling.{SpellsList};
 ghost use Rattle.cue_form.specs.declared.fault.CueFault.{CueFault};
 

@@ -3,7 +3,7 @@ ghost use Rattle.cue_form.specs.Answers.{Answers};
 ghost use Rattle.cue_form.specs.FirstFault.{FaultsFirst};
 ghost use Rattle.cue_form.specs.Reading.{read_list};
 ghost use Rattle.cc_base.specs.Streams.{whole_limit};
-ghost use Rattle.record_files.specs.Records.{records_of};
+ghost use Rattle.cue_form.specs.Records.{records_of};
 ghost use Rattle.cue_form.specs.Spelling.{SpellsList};
 
 use crate::draft::Draft;

@@ -1,7 +1,7 @@
 ghost use Rattle.std.specs.Prelude.{◌≡◌};
 ghost use Rattle.cue_form.specs.Form.{record_kind_of};
 
-use record_files::is_word;
+use crate::is_word;
 
 /// The kinds of records of a cue list, each named by its first field.
 #[derive(Clone, Copy, Debug, PartialEq, Eq)]

@@ -11,11 +11,11 @@ use crate::fields::{
 };
 use crate::record_kind::RecordKind;
 use crate::texts::{columns_of, read_text};
+use crate::{Offence, count_place, field, out_of_form, read_number, read_within};
 use cc_base::LimitOf;
 use csv::ByteRecord;
 use cue_types::{Cue, Head, Kind, MOST_FRAMES, Pen, Run, Runs, WinCue};
 use dtvcc_codes::{PenColors, WinAttr};
-use record_files::{Offence, count_place, field, out_of_form, read_number, read_within};
 use std::alloc::Global;
 
 // The value of a field, which is refused where it has none.

@@ -4,11 +4,11 @@ ghost use Rattle.cue_form.specs.Answers.{Gives};
 ghost use Rattle.cue_form.specs.Form.{cue_columns, is_coded};
 ghost use Rattle.cue_form.specs.Texts.{is_plain_byte, run_text_of};
 
+use crate::{Offence, out_of_form};
 use cc_base::Why;
 use cue_types::{Kind, Text};
 use dtvcc_codes::spell_dtv;
 use line21_codes::spell;
-use record_files::{Offence, out_of_form};
 use std::alloc::Global;
 use std::str;
 

@@ -5,7 +5,7 @@ use Rattle.cc_base.specs.declared.streams.Put.{Put}
 use Rattle.cc_base.specs.declared.streams.Put.TheVariants as put
 use Rattle.frame_scheduler.specs.Columns.{Columns}
 use Rattle.frame_scheduler.specs.declared.frames.FrameBytes.{FrameBytes}
-use Rattle.programmes.proofs.OnTheWay.{IsOnTheWay, piece_gathered, way_ended, way_failed}
+use Rattle.frame_carrier.proofs.OnTheWay.{IsOnTheWay, piece_gathered, way_ended, way_failed}
 use Rattle.text_output.specs.Gathered.{Flushes, Gathers}
 use Rattle.cue_list_commands.specs.Lines.{pair_line, pair_lines}
 

@@ -1,3 +1,4 @@
+pub mod MadeLemmas
 mod GatheredLines
 pub mod ListAnswerLemmas
 pub mod ListVerdictLemmas

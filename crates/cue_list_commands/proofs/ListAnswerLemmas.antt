@@ -13,7 +13,7 @@ use Rattle.frame_scheduler.specs.Planned.{Placement}
 use Rattle.cue_list_commands.specs.Accepted.{IsAccepted, IsGoodList, IsRefused, IsRefusedList}
 use Rattle.cue_list_commands.specs.ListAnswer.{BuildAnswer, CuesAnswer, PairsAnswer}
 use Rattle.cue_list_commands.specs.Output.{IsPlacedAs, IsSoundPairs, IsSoundWords, framing_of, lines_of}
-use Rattle.programmes.specs.Framing.{words_of}
+use Rattle.frame_carrier.specs.Framing.{words_of}
 use Rattle.command_base.proofs.MakesLemmas.{made_accepted, made_refused, made_told}
 use Rattle.cue_list_commands.proofs.ListVerdictLemmas.{accepted_not_refused, good_not_refused, refused_once}
 use Rattle.cue_list_commands.proofs.Refusals.{refused_list}

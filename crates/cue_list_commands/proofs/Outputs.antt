@@ -24,11 +24,11 @@ use Rattle.line21_shown.proofs.SequenceLemmas.{authored_seen}
 use Rattle.command_base.specs.MakesAnswer.{PutsMade}
 use Rattle.cue_list_commands.specs.Accepted.{IsGoodList}
 use Rattle.cue_list_commands.specs.Output.{IsPlacedAs, IsSoundPairs, IsSoundWords, PlacedList, list_grids, list_told}
-use Rattle.sound_frames.specs.Showing.{ColumnsShow}
-use Rattle.sound_frames.specs.Sound.{IsSoundFrames}
-use Rattle.sound_frames.proofs.PlacedBlocksLemmas.{fit_blocks, shares_kept}
-use Rattle.sound_frames.proofs.SeenLemmas.{columns_seen}
-use Rattle.sound_frames.proofs.SoundLemmas.{fit_sound}
+use Rattle.services_shown.specs.Showing.{ColumnsShow}
+use Rattle.services_shown.specs.Sound.{IsSoundFrames}
+use Rattle.services_shown.proofs.PlacedBlocksLemmas.{fit_blocks, shares_kept}
+use Rattle.services_shown.proofs.SoundSeenLemmas.{columns_seen}
+use Rattle.services_shown.proofs.SoundLemmas.{fit_sound}
 
 -- the pairs of an accepted list show it, at every frame
 pub show_columns : (list : Listing) (placed : Placement) → IsFormed list → IsRuled list → IsListPlaced list placed → (n : ℕ)

@@ -1,3 +1,4 @@
+pub mod Made
 pub mod Accepted
 pub mod Lines
 pub mod ListAnswer

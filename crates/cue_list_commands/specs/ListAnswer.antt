@@ -7,7 +7,7 @@ use Rattle.cue_lists.specs.Spelling.{list_records}
 use Rattle.cue_lists.specs.declared.head.Version.TheVariants as version
 use Rattle.cue_list_commands.specs.Accepted.{IsGoodList, IsRefused, IsRefusedList}
 use Rattle.command_base.specs.Ends.{Ends}
-use Rattle.programmes.specs.Framing.{words_of}
+use Rattle.frame_carrier.specs.Framing.{words_of}
 use Rattle.command_base.specs.MakesAnswer.{MakesAnswer}
 use Rattle.cue_list_commands.specs.Output.{IsPlacedAs, IsSoundPairs, IsSoundWords, framing_of, lines_of}
 use Rattle.command_base.specs.declared.status.Status.{Status}

@@ -1,17 +1,17 @@
 -- Believed in part: the program's answer stands on some of these definitions.
 -- What the commands that read a cue list put of an accepted one, and what holds of it.
 use Rattle.std.specs.Prelude.{⊤, ℕ, List}
-use Rattle.authored_grids.specs.AuthoredServiceGrid.{authored_windows}
+use Rattle.cue_lists.specs.AuthoredServiceGrid.{authored_windows}
 use Rattle.line21_codes.specs.declared.channels.Chan.TheVariants.{Cc1, Cc2, Cc3, Cc4}
 use Rattle.cdp_packets.specs.Packets.{Frame}
 use Rattle.cue_lists.specs.AuthoredGrid.{IsSettled, authored_grid, blank}
 use Rattle.cue_lists.specs.Listing.{Listing}
 use Rattle.frame_scheduler.specs.Planned.{Placement, columns_of, share_in}
-use Rattle.programmes.specs.Framing.{Framing, packets_of, words_of}
+use Rattle.frame_carrier.specs.Framing.{Framing, packets_of, words_of}
 use Rattle.services_shown.specs.Delays.{AreDelaysSent}
-use Rattle.sound_frames.specs.Shares.{AreSharesKept}
-use Rattle.sound_frames.specs.Showing.{ColumnsShow, Grids, ShowsFrames, Telling, WindowsShown}
-use Rattle.sound_frames.specs.Sound.{AreDoubledIn, IsSoundFrames}
+use Rattle.services_shown.specs.Shares.{AreSharesKept}
+use Rattle.services_shown.specs.Showing.{ColumnsShow, Grids, ShowsFrames, Telling, WindowsShown}
+use Rattle.services_shown.specs.Sound.{AreDoubledIn, IsSoundFrames}
 use Rattle.cue_list_commands.specs.Accepted.{IsAccepted}
 use Rattle.cue_list_commands.specs.Lines.{pair_lines}
 

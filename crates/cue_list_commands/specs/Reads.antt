@@ -6,8 +6,8 @@ use Rattle.cue_lists.specs.declared.fault.CueFault.{CueFault}
 use Rattle.cue_lists.specs.declared.fault.CueFault.TheVariants as fault
 use Rattle.frame_scheduler.specs.Frames.{GivesFrom, frames_left}
 use Rattle.frame_scheduler.specs.declared.frames.Plan.{Plan}
-use Rattle.programmes.specs.declared.programme.Programme.{Programme}
-use Rattle.programme_runs.specs.Made.{IsProgrammeOf as IsProgrammeMade}
+use Rattle.frame_carrier.specs.declared.programme.Programme.{Programme}
+use Rattle.cue_list_commands.specs.Made.{IsProgrammeOf as IsProgrammeMade}
 use Rattle.cue_list_commands.specs.Output.{IsPlacedAs, framing_of}
 use Rattle.cue_list_commands.specs.Accepted.{IsGoodList, IsRefused, IsRefusedList}
 use Rattle.command_base.specs.WholeInput.{ReadsInput}

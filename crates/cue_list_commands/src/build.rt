@@ -2,11 +2,11 @@ ghost use Rattle.cue_list_commands.specs.ListAnswer.{BuildAnswer};
 ghost use Rattle.command_base.specs.Ends.{ends};
 
 use crate::accept::read_programme;
+use crate::{Makes, run_made};
 use cc_base::{Sink, Source};
 use command_base::Status;
+use frame_carrier::{Programme, Words};
 use frame_scheduler::Plan;
-use programme_runs::{Makes, run_made};
-use programmes::{Programme, Words};
 use std::alloc::Global;
 
 /// `build`: the words of a cue list.

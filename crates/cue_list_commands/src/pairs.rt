@@ -1,16 +1,16 @@
 ghost use Rattle.cc_base.specs.Streams.{PutCause, Puts};
-ghost use Rattle.programmes.specs.Framing.{Framing, HasFraming};
+ghost use Rattle.frame_carrier.specs.Framing.{Framing, HasFraming};
 ghost use Rattle.cue_list_commands.specs.ListAnswer.{PairsAnswer};
 ghost use Rattle.command_base.specs.Ends.{ends};
 ghost use Rattle.cue_list_commands.specs.Output.{lines_of};
 
 use crate::accept::read_programme;
 use crate::lines::line_of;
+use crate::{Makes, run_made};
 use cc_base::{Put, Sink, Source};
 use command_base::Status;
+use frame_carrier::{Output, Programme};
 use frame_scheduler::{Frames, Plan};
-use programme_runs::{Makes, run_made};
-use programmes::{Output, Programme};
 use std::alloc::Global;
 use text_output::Gathered;
 

@@ -5,18 +5,18 @@ use Rattle.std.specs.List.{AllByRecursion}
 use Rattle.std.proofs.lemmas.Bool.{eqb-true}
 use Rattle.std.proofs.lemmas.Bool.Decides.{leb_tells}
 use Rattle.std.proofs.lemmas.List.Elements.{recursion_from_All}
-use Rattle.authored_grids.specs.AuthoredServiceGrid.{AreOneAtATime, is_before, shows_in}
+use Rattle.cue_lists.specs.AuthoredServiceGrid.{AreOneAtATime, is_before, shows_in}
 use Rattle.cue_types.specs.Channels.{cues_of_service, is_of_service, uses_window}
 use Rattle.cue_types.specs.Cues.{IsCueFormed}
 use Rattle.cue_types.specs.Listing.{IsFormed, Listing}
 use Rattle.cue_types.specs.declared.cue.Cue.{Cue}
 use Rattle.cue_types.specs.declared.cue.Kind.{Kind}
 use Rattle.cue_types.specs.declared.cue.Kind.TheVariants as kind
-use Rattle.cue_rules.specs.Rules.{IsRuled}
-use Rattle.cue_rules.specs.Rules.Sentences.{AreInService, IsSoundWindow, KeepsClear}
-use Rattle.cue_rules.specs.Rules.WindowBusy.{same_window}
-use Rattle.cue_rules.proofs.ServiceCues.{window_of_service}
-use Rattle.cue_rules.proofs.ServiceRules.{of_all, window_hides}
+use Rattle.cue_lists.specs.Rules.{IsRuled}
+use Rattle.cue_lists.specs.Rules.Sentences.{AreInService, IsSoundWindow, KeepsClear}
+use Rattle.cue_lists.specs.Rules.WindowBusy.{same_window}
+use Rattle.cue_lists.proofs.ServiceCues.{window_of_service}
+use Rattle.cue_lists.proofs.ServiceRules.{of_all, window_hides}
 
 -- two tests in one
 first_of : (a b : Bool) → (a && b) ≡ true → a ≡ true

@@ -1,13 +1,13 @@
 -- A list with its shares in ascending order of their services keeps the rules where the list does.
 use Rattle.std.proofs.Common.{◌≡◌, ℕ, List, [], ◌∷◌, Option, sym, subst}
 use Rattle.std.specs.Prelude.{IsSome}
-use Rattle.cue_print.specs.Printing.{in_order}
-use Rattle.cue_print.proofs.InOrder.{same_share}
+use Rattle.cue_form.specs.Printing.{in_order}
+use Rattle.cue_form.proofs.InOrder.{same_share}
 use Rattle.cue_types.specs.Channels.{cues_of_service}
 use Rattle.cue_types.specs.Listing.{IsFormed, Listing, share_of}
 use Rattle.cue_types.specs.declared.cue.Cue.{Cue}
-use Rattle.cue_rules.specs.Rules.{IsRuled}
-use Rattle.cue_rules.specs.Rules.Sentences.{AreInService}
+use Rattle.cue_lists.specs.Rules.{IsRuled}
+use Rattle.cue_lists.specs.Rules.Sentences.{AreInService}
 
 -- a service with the same share keeps the rules
 service_kept : (list : Listing) (service : ℕ) (cues : List Cue) → share_of (in_order list) service ≡ share_of list service

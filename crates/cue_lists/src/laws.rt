@@ -1,8 +1,8 @@
 //! What the rules give for what is seen: functions that do nothing, with laws as their contracts.
 ghost use Rattle.std.specs.Prelude.{ℕ};
-ghost use Rattle.authored_grids.specs.AuthoredServiceGrid.{AreOneAtATime, IsWindowAt, authored_windows};
-ghost use Rattle.cue_print.specs.Printing.{in_order};
-ghost use Rattle.cue_rules.specs.Rules.{IsRuled};
+ghost use Rattle.cue_lists.specs.AuthoredServiceGrid.{AreOneAtATime, IsWindowAt, authored_windows};
+ghost use Rattle.cue_form.specs.Printing.{in_order};
+ghost use Rattle.cue_lists.specs.Rules.{IsRuled};
 ghost use Rattle.cue_types.specs.Listing.{IsFormed, Listing};
 
 /// In a list that keeps the rules, the cues of a window are shown one at a time, as each is loaded when the one before is hidden

@@ -24,9 +24,9 @@ use Rattle.dual_plans.specs.OtherList.{AreAlike, IsJudged}
 use Rattle.dual_plans.specs.Verdict.{IsVerdict, Lacking, LackingBeside, Placed, Verdict}
 use Rattle.dual_plans.specs.declared.other_list.OtherField.{OtherField}
 use Rattle.dual_plans.proofs.PairDecided.{each_judged}
-use Rattle.field_clashes.specs.Clashes.{IsFieldClash, IsLeast}
-use Rattle.field_clashes.specs.declared.clash.Clash.{Clash}
-use Rattle.field_clashes.proofs.MeetingLemmas.{Decided, least_always}
+use Rattle.dual_plans.specs.Clashes.{IsFieldClash, IsLeast}
+use Rattle.dual_plans.specs.declared.clash.Clash.{Clash}
+use Rattle.dual_plans.proofs.MeetingLemmas.{Decided, least_always}
 
 -- rates are one or two
 rate_decided : (a b : Rate) → Decided (a ≡ b)

@@ -15,7 +15,7 @@ use Rattle.dual_plans.specs.Verdict.{Lacking, LackingBeside, Placed}
 use Rattle.dual_plans.proofs.PairDecided.{judged_once}
 use Rattle.dual_plans.specs.OtherList.{AreAlike, IsJudged}
 use Rattle.dual_plans.specs.declared.other_list.OtherField.{OtherField}
-use Rattle.field_clashes.specs.Clashes.{IsFieldClash}
+use Rattle.dual_plans.specs.Clashes.{IsFieldClash}
 
 -- the place of a field of the second list
 same_place : (a b : OtherField) → a.rec ≡ b.rec → a.field ≡ b.field → a ≡ b

@@ -3,18 +3,18 @@ use Rattle.std.proofs.Common.{◌∙◌, ℕ, suc, List, arith}
 use Rattle.cue_lists.specs.Listing.{Listing}
 use Rattle.dual_commands.specs.DualLists.{IsPlacedBeside, PlacedLists}
 use Rattle.dual_commands.specs.DualWords.{IsSoundDual}
-use Rattle.dual_frames.proofs.DualBlocksLemmas.{dual_blocks}
-use Rattle.dual_frames.proofs.DualPairsLemmas.{dual_sound}
-use Rattle.dual_frames.proofs.DualShownLemmas.{both_shown}
+use Rattle.dual_plans.proofs.DualBlocksLemmas.{dual_blocks}
+use Rattle.dual_plans.proofs.DualPairsLemmas.{dual_sound}
+use Rattle.dual_plans.proofs.DualShownLemmas.{both_shown}
 use Rattle.dual_plans.specs.DualPlacement.{DualPlacement, IsDualPlaced, dual_columns}
 use Rattle.dual_plans.specs.FieldPlaces.{GoTogether}
 use Rattle.frame_scheduler.specs.Planned.{columns_of, share_in}
 use Rattle.services_shown.proofs.DelayLemmas.{delays_sent}
 use Rattle.services_shown.proofs.SeenLemmas.{authored_windows_seen}
-use Rattle.sound_frames.specs.OtherPairs.{AreFitAlike}
-use Rattle.sound_frames.specs.Sound.{IsSoundFrames}
-use Rattle.sound_frames.proofs.PlacedBlocksLemmas.{shares_kept}
-use Rattle.sound_frames.proofs.SeenLemmas.{columns_seen}
+use Rattle.services_shown.specs.OtherPairs.{AreFitAlike}
+use Rattle.services_shown.specs.Sound.{IsSoundFrames}
+use Rattle.services_shown.proofs.PlacedBlocksLemmas.{shares_kept}
+use Rattle.services_shown.proofs.SoundSeenLemmas.{columns_seen}
 
 module _ (one two : Listing) (placed : DualPlacement) (together : GoTogether one two) (is : IsDualPlaced one two placed) where
   sound : IsSoundFrames one.rate one.frames (dual_columns one two placed)

@@ -9,7 +9,7 @@ use Rattle.dual_commands.specs.DualLists.{IsPlacedBeside, IsRefusedBeside}
 use Rattle.dual_commands.specs.DualWords.{IsSoundDual, dual_framing}
 use Rattle.dual_commands.specs.declared.dual_of.DualOf.{DualOf}
 use Rattle.command_base.specs.MakesAnswer.{BesideAnswer, MakesAnswer}
-use Rattle.programmes.specs.Framing.{words_of}
+use Rattle.frame_carrier.specs.Framing.{words_of}
 
 abbrev pub DualAnswer : SideEnds → SideEnds → Ends → Ends → Status → Type 0
 DualAnswer side later old new answer =

@@ -12,7 +12,7 @@ use Rattle.dual_plans.specs.DualAnswer.{IsFirstWithout, IsFirstWithoutBeside}
 use Rattle.dual_plans.specs.DualPlacement.{DualPlacement, IsDualPlaced}
 use Rattle.dual_plans.specs.FieldPlaces.{GoTogether}
 use Rattle.dual_plans.specs.OtherList.{AreAlike, IsJudged}
-use Rattle.field_clashes.specs.Clashes.{IsFieldClash, IsLeastClash}
+use Rattle.dual_plans.specs.Clashes.{IsFieldClash, IsLeastClash}
 
 -- two lists that are placed together
 pub record PlacedLists : Type 0 where

@@ -2,14 +2,14 @@
 -- What is put of two lists, and what holds of it.
 use Rattle.cue_list_commands.specs.Output.{list_windows}
 use Rattle.dual_commands.specs.DualLists.{PlacedLists}
-use Rattle.dual_frames.specs.DualShown.{dual_grids, dual_told}
+use Rattle.dual_plans.specs.DualShown.{dual_grids, dual_told}
 use Rattle.dual_plans.specs.DualPlacement.{dual_columns}
 use Rattle.frame_scheduler.specs.Planned.{share_in}
-use Rattle.programmes.specs.Framing.{Framing, packets_of}
+use Rattle.frame_carrier.specs.Framing.{Framing, packets_of}
 use Rattle.services_shown.specs.Delays.{AreDelaysSent}
-use Rattle.sound_frames.specs.Shares.{AreSharesKept}
-use Rattle.sound_frames.specs.Showing.{ShowsFrames}
-use Rattle.sound_frames.specs.Sound.{IsSoundFrames}
+use Rattle.services_shown.specs.Shares.{AreSharesKept}
+use Rattle.services_shown.specs.Showing.{ShowsFrames}
+use Rattle.services_shown.specs.Sound.{IsSoundFrames}
 
 -- the frames of both lists in their placements
 abbrev pub dual_framing : PlacedLists → Framing

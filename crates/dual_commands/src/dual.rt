@@ -7,12 +7,10 @@ ghost use Rattle.dual_commands.specs.DualStatus.{fault_status};
 use crate::dual_of::DualOf;
 use cc_base::{Sink, Source, Why};
 use command_base::{Place, Status};
-use cue_list_commands::read_list;
+use cue_list_commands::{Makes, ReadsSide, read_list, run_beside};
 use cue_lists::RuleFault;
-use dual_plans::{DualFault, plan_dual};
-use programme_runs::{Makes, ReadsSide, run_beside};
-use programmes::{GatheredWords, Programme};
-use shared_field::Dual;
+use dual_plans::{Dual, DualFault, plan_dual};
+use frame_carrier::{GatheredWords, Programme};
 use std::alloc::Global;
 
 impl Makes for DualOf {

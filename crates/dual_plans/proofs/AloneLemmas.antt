@@ -6,26 +6,26 @@ use Rattle.cue_lists.specs.Listing.{Listing}
 use Rattle.cue_lists.specs.declared.lane.Lane.TheVariants.{Channel}
 use Rattle.line21_author.specs.CueEvents.{channel_events}
 use Rattle.line21_author.specs.declared.event.Event.{Event}
-use Rattle.placements.specs.LaneRoom.{HasRoom, up_to}
-use Rattle.placements.specs.Placing.{IsPlaced}
-use Rattle.field_lanes.specs.FieldLane as alone
-use Rattle.field_lanes.specs.LaneEvents.{IsFree}
-use Rattle.field_lanes.specs.FieldPlan.{field_chunk_cue}
+use Rattle.lanes.specs.LaneRoom.{HasRoom, up_to}
+use Rattle.lanes.specs.Placing.{IsPlaced}
+use Rattle.lanes.specs.FieldLane as alone
+use Rattle.lanes.specs.LaneEvents.{IsFree}
+use Rattle.lanes.specs.FieldPlan.{field_chunk_cue}
 use Rattle.frame_scheduler.specs.Planned.{LaneHasRoom}
 use Rattle.frame_scheduler.specs.SlotLists.{slot_cues}
-use Rattle.field_lanes.specs.declared.chunk.FieldChunk.{FieldChunk}
-use Rattle.field_lanes.proofs.FieldLaneLemmas.{end_push as end_push_alone}
-use Rattle.resumed_lanes.specs.FieldSlots.{holds}
-use Rattle.resumed_lanes.specs.Parts.{part_cue}
-use Rattle.resumed_lanes.specs.ResumedLane.{end_of_parts, resumed_lane}
-use Rattle.resumed_lanes.specs.Slots.{Slots}
-use Rattle.resumed_lanes.specs.declared.part.Part.{Part}
-use Rattle.resumed_lanes.proofs.ResumedLemmas.{end_push}
-use Rattle.shared_field_shown.specs.Lanes.{part_chunks}
-use Rattle.shared_field_shown.specs.Seen.{first_events, second_events}
-use Rattle.shared_field_shown.proofs.ListedLemmas.{channel_chunks_from_back}
-use Rattle.shared_field_shown.proofs.SeenLemmas.{free_unless}
-use Rattle.shared_field_shown.proofs.TogetherLemmas.{both_not}
+use Rattle.lanes.specs.declared.chunk.FieldChunk.{FieldChunk}
+use Rattle.lanes.proofs.FieldLaneLemmas.{end_push as end_push_alone}
+use Rattle.dual_fields.specs.FieldSlots.{holds}
+use Rattle.dual_fields.specs.Parts.{part_cue}
+use Rattle.dual_fields.specs.ResumedLane.{end_of_parts, resumed_lane}
+use Rattle.dual_fields.specs.Slots.{Slots}
+use Rattle.dual_fields.specs.declared.part.Part.{Part}
+use Rattle.dual_fields.proofs.ResumedLemmas.{end_push}
+use Rattle.dual_fields.specs.Lanes.{part_chunks}
+use Rattle.dual_fields.specs.Seen.{first_events, second_events}
+use Rattle.dual_fields.proofs.ListedLemmas.{channel_chunks_from_back}
+use Rattle.dual_fields.proofs.SeenLemmas.{free_unless}
+use Rattle.dual_fields.proofs.TogetherLemmas.{both_not}
 use Rattle.dual_plans.specs.FieldPlaces.{first_units, slots_for_first}
 
 -- the units of the cues up to a number, by themselves

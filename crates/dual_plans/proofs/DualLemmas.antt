@@ -6,20 +6,20 @@ use Rattle.line21_codes.specs.Channels.{field_of_channel}
 use Rattle.cue_lists.specs.Listing.{Listing}
 use Rattle.line21_author.specs.CueEvents.{channel_events}
 use Rattle.line21_author.specs.declared.event.Event.{Event}
-use Rattle.field_clashes.proofs.ClashLemmas.{none_shared}
-use Rattle.field_lanes.specs.LaneEvents.{event_at}
+use Rattle.dual_plans.proofs.ClashLemmas.{none_shared}
+use Rattle.lanes.specs.LaneEvents.{event_at}
 use Rattle.frame_scheduler.specs.Planned.{authored_channel}
 use Rattle.frame_scheduler.specs.SlotLists.{slot_cues}
-use Rattle.field_lanes.specs.Timeline.{Timeline}
-use Rattle.placements.specs.declared.planning.PlanFault.{PlanFault}
-use Rattle.resumed_lanes.specs.FieldSlots.{first_slots, second_slots}
-use Rattle.resumed_lanes.specs.Filled.{IsFault, IsFilled}
-use Rattle.resumed_lanes.specs.Spans.{in_spans}
-use Rattle.resumed_lanes.specs.declared.part.Part.{Part}
-use Rattle.resumed_lanes.specs.declared.place.Place.{Place}
-use Rattle.shared_field.proofs.PlaceableLemmas.{second_begin}
-use Rattle.shared_field_shown.specs.Seen.{first_events, second_events}
-use Rattle.shared_field_shown.proofs.SeenLemmas.{holds_second}
+use Rattle.lanes.specs.Timeline.{Timeline}
+use Rattle.lanes.specs.declared.planning.PlanFault.{PlanFault}
+use Rattle.dual_fields.specs.FieldSlots.{first_slots, second_slots}
+use Rattle.dual_fields.specs.Filled.{IsFault, IsFilled}
+use Rattle.dual_fields.specs.Spans.{in_spans}
+use Rattle.dual_fields.specs.declared.part.Part.{Part}
+use Rattle.dual_fields.specs.declared.place.Place.{Place}
+use Rattle.dual_plans.proofs.PlaceableLemmas.{second_begin}
+use Rattle.dual_fields.specs.Seen.{first_events, second_events}
+use Rattle.dual_fields.proofs.SeenLemmas.{holds_second}
 use Rattle.dual_plans.specs.FieldPlaces.{PlacedFieldsAreDual, first_units, second_units, slots_for_first, slots_for_second}
 use Rattle.dual_plans.specs.ListLanes.{IsFirstLane, IsSecondLane}
 use Rattle.dual_plans.specs.declared.list_lane.ListLane.{ListLane}

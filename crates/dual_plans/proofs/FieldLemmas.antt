@@ -5,13 +5,13 @@ use Rattle.std.specs.Global.{Global}
 use Rattle.line21_codes.specs.declared.channels.Chan.{Chan}
 use Rattle.line21_slots.specs.Cadences.{cadence_of, slot_from}
 use Rattle.cue_lists.specs.Listing.{Listing}
-use Rattle.field_lanes.specs.LaneEvents.{event_at}
+use Rattle.lanes.specs.LaneEvents.{event_at}
 use Rattle.frame_scheduler.specs.SlotLists.{slots_in_list}
-use Rattle.placements.specs.declared.planning.PlanFault.{PlanFault}
-use Rattle.resumed_lanes.specs.FieldSlots.{second_slots}
-use Rattle.resumed_lanes.specs.Filled.{IsFault, IsFilled, slots_at}
-use Rattle.resumed_lanes.specs.Spans.{in_spans}
-use Rattle.resumed_lanes.specs.declared.place.Place.{Place}
+use Rattle.lanes.specs.declared.planning.PlanFault.{PlanFault}
+use Rattle.dual_fields.specs.FieldSlots.{second_slots}
+use Rattle.dual_fields.specs.Filled.{IsFault, IsFilled, slots_at}
+use Rattle.dual_fields.specs.Spans.{in_spans}
+use Rattle.dual_fields.specs.declared.place.Place.{Place}
 use Rattle.dual_plans.specs.FieldPlaces.{second_units, slots_for_second}
 use Rattle.dual_plans.specs.OtherList.{AreAlike}
 use Rattle.dual_plans.specs.StartedFields.{IsStarted}

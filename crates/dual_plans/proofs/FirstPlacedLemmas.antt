@@ -12,22 +12,22 @@ use Rattle.cue_lists.specs.Listing.{IsFormed, Listing}
 use Rattle.cue_lists.specs.Rules.{IsRuled}
 use Rattle.cue_lists.specs.declared.lane.Lane.{Lane}
 use Rattle.cue_lists.specs.declared.lane.Lane.TheVariants.{Channel, Service}
-use Rattle.placements.specs.LaneRoom.{AreInCueOrder, HasRoom}
-use Rattle.placements.specs.declared.planning.PlanFault.{PlanFault}
-use Rattle.placements.specs.declared.planning.PlanFault.TheVariants.{Memory, NoRoom}
-use Rattle.placements.proofs.LaneRoomLemmas.{room_all}
-use Rattle.service_lanes.specs.ServicePlan.{PlannedService}
+use Rattle.lanes.specs.LaneRoom.{AreInCueOrder, HasRoom}
+use Rattle.lanes.specs.declared.planning.PlanFault.{PlanFault}
+use Rattle.lanes.specs.declared.planning.PlanFault.TheVariants.{Memory, NoRoom}
+use Rattle.lanes.proofs.LaneRoomLemmas.{room_all}
+use Rattle.lanes.specs.ServicePlan.{PlannedService}
 use Rattle.frame_scheduler.specs.LaneSets.{IsFaultIn, IsFirstIn, IsServiceBelow, earlier_fault, fault_beside}
 use Rattle.frame_scheduler.specs.Planned.{LaneHasRoom}
 use Rattle.frame_scheduler.specs.ServicePlans.{AreServices}
 use Rattle.frame_scheduler.proofs.PlanLemmas.{far_roomy}
 use Rattle.frame_scheduler.proofs.ServicesLemmas.{below_roomy}
-use Rattle.resumed_lanes.specs.Filled.{IsFault, IsFilled, slots_at}
-use Rattle.resumed_lanes.specs.Parts.{part_cue}
-use Rattle.resumed_lanes.specs.ResumedLane.{resumed_lane}
-use Rattle.resumed_lanes.specs.Slots.{Slots}
-use Rattle.resumed_lanes.specs.declared.part.Part.{Part}
-use Rattle.resumed_lanes.specs.declared.place.Place.{Place}
+use Rattle.dual_fields.specs.Filled.{IsFault, IsFilled, slots_at}
+use Rattle.dual_fields.specs.Parts.{part_cue}
+use Rattle.dual_fields.specs.ResumedLane.{resumed_lane}
+use Rattle.dual_fields.specs.Slots.{Slots}
+use Rattle.dual_fields.specs.declared.part.Part.{Part}
+use Rattle.dual_fields.specs.declared.place.Place.{Place}
 use Rattle.dual_plans.specs.DualAnswer.{FieldHasRoom, IsFirstWithout}
 use Rattle.dual_plans.specs.DualParts.{AreStarted, IsFieldsFault, IsFirstFault}
 use Rattle.dual_plans.specs.FieldFaults.{IsFaultOf, IsFirstOfFields}

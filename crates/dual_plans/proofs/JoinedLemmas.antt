@@ -10,31 +10,31 @@ use Rattle.line21_slots.specs.Cadences.{cadence_of, slot_from, slot_in}
 use Rattle.line21_slots.proofs.CadenceLemmas.{slot_from_first}
 use Rattle.cue_lists.specs.Listing.{Listing}
 use Rattle.cue_lists.specs.declared.lane.Lane.TheVariants.{Service}
-use Rattle.service_lanes.specs.ServicePlan.{PlannedService}
+use Rattle.lanes.specs.ServicePlan.{PlannedService}
 use Rattle.frame_scheduler.specs.Blocks.{blocks_of}
 use Rattle.frame_scheduler.specs.Columns.{Columns}
 use Rattle.frame_scheduler.specs.Frames.{GivesFrom}
-use Rattle.field_lanes.specs.LaneEvents.{event_at}
-use Rattle.field_lanes.specs.FieldPlan.{PlannedField, lane_pair}
+use Rattle.lanes.specs.LaneEvents.{event_at}
+use Rattle.lanes.specs.FieldPlan.{PlannedField, lane_pair}
 use Rattle.frame_scheduler.specs.Planned.{IsLanePlaced, authored_channel}
 use Rattle.frame_scheduler.specs.SlotLists.{slot_cues}
-use Rattle.field_lanes.specs.Timeline.{Timeline, over, slot}
+use Rattle.lanes.specs.Timeline.{Timeline, over, slot}
 use Rattle.frame_scheduler.specs.declared.frames.FrameBytes.{FrameBytes}
 use Rattle.frame_scheduler.specs.declared.frames.Plan.{Plan}
 use Rattle.frame_scheduler.proofs.LanesLemmas.{placement}
 use Rattle.frame_scheduler.proofs.PlanLemmas.{frames_of, planned_blocks, planned_start}
-use Rattle.resumed_lanes.specs.Filled.{IsFilled, resumes_at, slots_at}
-use Rattle.resumed_lanes.specs.declared.part.Part.{Part}
-use Rattle.resumed_lanes.specs.declared.place.Place.{Place}
-use Rattle.shared_field.specs.Beside.{beside}
-use Rattle.shared_field.specs.Joined.{IsLaneOf}
-use Rattle.shared_field.specs.SecondLanes.{LaysBoth}
-use Rattle.shared_field.specs.declared.second_lanes.SecondLanes.{SecondLanes}
-use Rattle.shared_field.proofs.JoinedLemmas.{lanes_joined}
-use Rattle.shared_field_shown.specs.Dual.{Places}
-use Rattle.shared_field_shown.specs.Lanes.{whole}
-use Rattle.shared_field_shown.specs.Seen.{first_events, second_events}
-use Rattle.shared_field_shown.specs.Together.{AreTogether}
+use Rattle.dual_fields.specs.Filled.{IsFilled, resumes_at, slots_at}
+use Rattle.dual_fields.specs.declared.part.Part.{Part}
+use Rattle.dual_fields.specs.declared.place.Place.{Place}
+use Rattle.dual_plans.specs.Beside.{beside}
+use Rattle.dual_plans.specs.Joined.{IsLaneOf}
+use Rattle.dual_plans.specs.SecondLanes.{LaysBoth}
+use Rattle.dual_plans.specs.declared.second_lanes.SecondLanes.{SecondLanes}
+use Rattle.dual_plans.proofs.SharedJoinedLemmas.{lanes_joined}
+use Rattle.dual_fields.specs.Dual.{Places}
+use Rattle.dual_fields.specs.Lanes.{whole}
+use Rattle.dual_fields.specs.Seen.{first_events, second_events}
+use Rattle.dual_fields.specs.Together.{AreTogether}
 use Rattle.dual_plans.specs.DualAnswer.{IsPlanned}
 use Rattle.dual_plans.specs.DualParts.{IsFirstPlaced, IsSecondPlaced}
 use Rattle.dual_plans.specs.DualPlacement.{DualPlacement, both_pair, dual_columns}

@@ -3,19 +3,19 @@
 use Rattle.std.proofs.Common.{◌≡◌, ◌⊎◌, inl, inr, ℕ, zero, suc, ◌+◌, ◌<◌, ◌≤◌, ◌&&◌, Bool, true, false, List, [], ◌∷◌, ◌++◌, Option, Some, None, All, length, get_or, take, refl, sym, ap, subst, arith}
 use Rattle.std.specs.Prelude.{if◌then◌else◌}
 use Rattle.std.proofs.lemmas.Bool.{cases_eq, cases_lt}
-use Rattle.placements.specs.FirstFit.{IsFirst}
-use Rattle.placements.specs.LaneRoom.{AreInCueOrder, IsFirstCrowded}
-use Rattle.resumed_lanes.specs.Filled.{IsFilled}
-use Rattle.resumed_lanes.specs.Parts.{IsBegun, part_cue, part_slots}
-use Rattle.resumed_lanes.specs.ResumedLane.{IsAllowedBeside, IsFirstTwo, IsLastForeign, ResumesAt, Stand, resumed_lane}
-use Rattle.resumed_lanes.specs.Slots.{AreSound, Slots}
-use Rattle.resumed_lanes.specs.Waiting.{Describes, may_begin, next_resume, resume_at}
-use Rattle.resumed_lanes.specs.declared.part.Part.{Part}
-use Rattle.resumed_lanes.specs.declared.place.Place.{Place}
-use Rattle.resumed_lanes.specs.declared.place.Resume.{Resume}
-use Rattle.resumed_lanes.specs.declared.place.Resume.TheVariants.{NotNeeded}
-use Rattle.resumed_lanes.proofs.FillLemmas.{Reaches, filled_all, reaches_first, reaches_next, reaches_none}
-use Rattle.resumed_lanes.proofs.WaitingLemmas.{begins_allowed, described_first, described_next, placed_resumes, refused}
+use Rattle.lanes.specs.FirstFit.{IsFirst}
+use Rattle.lanes.specs.LaneRoom.{AreInCueOrder, IsFirstCrowded}
+use Rattle.dual_fields.specs.Filled.{IsFilled}
+use Rattle.dual_fields.specs.Parts.{IsBegun, part_cue, part_slots}
+use Rattle.dual_fields.specs.ResumedLane.{IsAllowedBeside, IsFirstTwo, IsLastForeign, ResumesAt, Stand, resumed_lane}
+use Rattle.dual_fields.specs.Slots.{AreSound, Slots}
+use Rattle.dual_fields.specs.Waiting.{Describes, may_begin, next_resume, resume_at}
+use Rattle.dual_fields.specs.declared.part.Part.{Part}
+use Rattle.dual_fields.specs.declared.place.Place.{Place}
+use Rattle.dual_fields.specs.declared.place.Resume.{Resume}
+use Rattle.dual_fields.specs.declared.place.Resume.TheVariants.{NotNeeded}
+use Rattle.dual_fields.proofs.FillLemmas.{Reaches, filled_all, reaches_first, reaches_next, reaches_none}
+use Rattle.dual_fields.proofs.WaitingLemmas.{begins_allowed, described_first, described_next, placed_resumes, refused}
 
 -- the first slot in which a unit may begin behind others, and where its cue's first unit comes again
 record FirstPlace (slots : Slots) (end : ℕ) (part : Part) : Type 0 where

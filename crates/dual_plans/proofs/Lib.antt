@@ -1,3 +1,11 @@
+pub mod LanesLemmas
+pub mod OthersLemmas
+pub mod SharedJoinedLemmas
+pub mod PlaceableLemmas
+pub mod PlacedUnitsLemmas
+pub mod CueEventLemmas
+pub mod ClashLemmas
+pub mod MeetingLemmas
 pub mod ListLaneLemmas
 pub mod PlacesLemmas
 pub mod DualLemmas
@@ -12,3 +20,8 @@ pub mod JoinedLemmas
 pub mod LaneDecided
 pub mod AloneLemmas
 pub mod PairDecided
+pub mod DualShownLemmas
+pub mod DualBlocksLemmas
+pub mod SentLemmas
+pub mod SendableLemmas
+pub mod DualPairsLemmas

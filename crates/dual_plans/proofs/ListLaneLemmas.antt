@@ -16,15 +16,15 @@ use Rattle.line21_author.specs.CueUnits.{units_of}
 use Rattle.line21_author.specs.declared.event.Event.{Event}
 use Rattle.line21_author.specs.declared.unit.Unit.{Unit}
 use Rattle.line21_author.proofs.SlotSequenceLemmas.{IsSoundInSlots, all_sound_in_slots}
-use Rattle.field_lanes.specs.ChannelLane.{field_cue_chunks}
+use Rattle.lanes.specs.ChannelLane.{field_cue_chunks}
 use Rattle.frame_scheduler.specs.SlotLists.{slot_cues, slots_in_list}
 use Rattle.frame_scheduler.proofs.SlotLemmas.{slot_sequence}
-use Rattle.resumed_lanes.specs.Agreeing.{EndsBy}
-use Rattle.resumed_lanes.specs.declared.part.Part.{Part}
-use Rattle.shared_field.specs.Placeable.{ArePlaceable, AreWritable}
-use Rattle.shared_field.proofs.PlaceableLemmas.{channels_ready}
-use Rattle.shared_field_shown.specs.ChannelParts.{channel_parts, later_part, parts_from, parts_of}
-use Rattle.shared_field_shown.specs.Seen.{second_part, second_parts}
+use Rattle.dual_fields.specs.Agreeing.{EndsBy}
+use Rattle.dual_fields.specs.declared.part.Part.{Part}
+use Rattle.dual_plans.specs.Placeable.{ArePlaceable, AreWritable}
+use Rattle.dual_plans.proofs.PlaceableLemmas.{channels_ready}
+use Rattle.dual_fields.specs.ChannelParts.{channel_parts, later_part, parts_from, parts_of}
+use Rattle.dual_fields.specs.Seen.{second_part, second_parts}
 use Rattle.dual_plans.specs.ListLanes.{HasUnitsWithin, IsFirstLane, IsSecondLane, IsWritableLane}
 use Rattle.dual_plans.specs.declared.list_lane.ListLane.{ListLane}
 

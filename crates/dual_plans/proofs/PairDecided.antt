@@ -10,28 +10,28 @@ use Rattle.line21_codes.specs.declared.channels.FieldNumber.TheVariants.{One, Tw
 use Rattle.cue_lists.specs.Listing.{Listing}
 use Rattle.cue_lists.specs.declared.lane.Lane.{Lane}
 use Rattle.cue_lists.specs.declared.lane.Lane.TheVariants.{Channel, Service}
-use Rattle.placements.specs.LaneRoom.{AreInCueOrder, HasRoom, IsFirstCrowded}
-use Rattle.placements.specs.Placing.{IsEarliest}
-use Rattle.placements.specs.declared.planning.PlanFault.TheVariants.{NoRoom}
-use Rattle.placements.proofs.LaneRoomLemmas.{room_all}
-use Rattle.placements.proofs.PlacingLemmas.{earliest_same}
+use Rattle.lanes.specs.LaneRoom.{AreInCueOrder, HasRoom, IsFirstCrowded}
+use Rattle.lanes.specs.Placing.{IsEarliest}
+use Rattle.lanes.specs.declared.planning.PlanFault.TheVariants.{NoRoom}
+use Rattle.lanes.proofs.LaneRoomLemmas.{room_all}
+use Rattle.lanes.proofs.PlacingLemmas.{earliest_same}
 use Rattle.frame_scheduler.specs.Blocks.{service_block}
 use Rattle.frame_scheduler.specs.Planned.{IsFirstWithoutRoom, IsLanePlaced, IsListPlaced, LaneHasRoom, Placement, authored_channel, chunks_in, frame_blocks, service_bytes, service_lane_of, services}
 use Rattle.frame_scheduler.specs.SlotLists.{slot_cues}
 use Rattle.frame_scheduler.proofs.LanesLemmas.{off_room, service_room}
 use Rattle.frame_scheduler.proofs.RoomDecided.{list_decided}
-use Rattle.resumed_lanes.specs.FieldSlots.{holds}
-use Rattle.resumed_lanes.specs.Filled.{IsFilled, resumes_at, slots_at}
-use Rattle.resumed_lanes.specs.Parts.{IsBegun, part_cue}
-use Rattle.resumed_lanes.specs.ResumedLane.{Stand, resumed_lane}
-use Rattle.resumed_lanes.specs.Slots.{AreSound, Slots}
-use Rattle.resumed_lanes.specs.Spans.{in_spans}
-use Rattle.resumed_lanes.specs.declared.part.Part.{Part}
-use Rattle.resumed_lanes.specs.declared.place.Place.{Place}
-use Rattle.shared_field.specs.Placeable.{ArePlaceable}
-use Rattle.shared_field.proofs.PlaceableLemmas.{channels_ready}
-use Rattle.shared_field_shown.specs.Dual.{Places}
-use Rattle.shared_field_shown.specs.Seen.{first_events, second_events}
+use Rattle.dual_fields.specs.FieldSlots.{holds}
+use Rattle.dual_fields.specs.Filled.{IsFilled, resumes_at, slots_at}
+use Rattle.dual_fields.specs.Parts.{IsBegun, part_cue}
+use Rattle.dual_fields.specs.ResumedLane.{Stand, resumed_lane}
+use Rattle.dual_fields.specs.Slots.{AreSound, Slots}
+use Rattle.dual_fields.specs.Spans.{in_spans}
+use Rattle.dual_fields.specs.declared.part.Part.{Part}
+use Rattle.dual_fields.specs.declared.place.Place.{Place}
+use Rattle.dual_plans.specs.Placeable.{ArePlaceable}
+use Rattle.dual_plans.proofs.PlaceableLemmas.{channels_ready}
+use Rattle.dual_fields.specs.Dual.{Places}
+use Rattle.dual_fields.specs.Seen.{first_events, second_events}
 use Rattle.dual_plans.specs.DualAnswer.{FieldHasRoom, HasRoomBeside, IsFirstWithout, IsFirstWithoutBeside}
 use Rattle.dual_plans.specs.DualPlacement.{DualPlacement, IsDualPlaced, both_pair, dual_columns}
 use Rattle.dual_plans.specs.FieldFaults.{IsFirstOfFields}

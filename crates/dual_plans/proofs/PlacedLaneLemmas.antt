@@ -1,18 +1,18 @@
 -- A lane whose units stand in their places can be read from slot 0 on.
 use Rattle.std.proofs.Common.{◌≡◌, List, None, ◌∙◌}
 use Rattle.line21_author.specs.EventOrder.{AreApart}
-use Rattle.field_lanes.specs.LaneCursor.{IsReadyForPairs}
-use Rattle.field_lanes.specs.LaneTimeline.{in_slots, placed_timeline}
-use Rattle.field_lanes.specs.declared.placed_unit.PlacedUnit.{PlacedUnit}
-use Rattle.field_lanes.specs.FieldPlan.{PlannedField}
-use Rattle.field_lanes.proofs.LanePlanLemmas.{ready_placed}
-use Rattle.resumed_lanes.specs.Filled.{resumes_at, slots_at}
-use Rattle.resumed_lanes.specs.declared.place.Place.{Place}
-use Rattle.shared_field.specs.Joined.{IsLaneOf}
-use Rattle.shared_field.specs.PlacedUnits.{units_in}
-use Rattle.shared_field.proofs.PlacedUnitsLemmas.{units_of_one_lane}
-use Rattle.shared_field_shown.specs.Expanded.{expanded, spread}
-use Rattle.shared_field_shown.proofs.ExpandedLemmas.{one_lane}
+use Rattle.lanes.specs.LaneCursor.{IsReadyForPairs}
+use Rattle.lanes.specs.LaneTimeline.{in_slots, placed_timeline}
+use Rattle.lanes.specs.declared.placed_unit.PlacedUnit.{PlacedUnit}
+use Rattle.lanes.specs.FieldPlan.{PlannedField}
+use Rattle.lanes.proofs.LanePlanLemmas.{ready_placed}
+use Rattle.dual_fields.specs.Filled.{resumes_at, slots_at}
+use Rattle.dual_fields.specs.declared.place.Place.{Place}
+use Rattle.dual_plans.specs.Joined.{IsLaneOf}
+use Rattle.dual_plans.specs.PlacedUnits.{units_in}
+use Rattle.dual_plans.proofs.PlacedUnitsLemmas.{units_of_one_lane}
+use Rattle.dual_fields.specs.Expanded.{expanded, spread}
+use Rattle.dual_fields.proofs.ExpandedLemmas.{one_lane}
 use Rattle.dual_plans.specs.PlacedLanes.{CanStand}
 use Rattle.dual_plans.specs.declared.list_lane.ListLane.{ListLane}
 

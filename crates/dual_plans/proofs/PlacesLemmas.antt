@@ -2,18 +2,18 @@
 use Rattle.std.proofs.Common.{ℕ, ◌+◌, List, [], ◌∷◌, Option, All}
 use Rattle.std.specs.Prelude.{IfErr, IfOk, Result, Ok, Err, Vec}
 use Rattle.std.specs.Global.{Global}
-use Rattle.placements.specs.declared.planning.PlanFault.{PlanFault}
-use Rattle.placements.specs.declared.planning.PlanFault.TheVariants.{Memory, NoRoom}
-use Rattle.resumed_lanes.specs.Agreeing.{Agree, EndsBy}
-use Rattle.resumed_lanes.specs.Filled.{IsFault, IsFilled, resumes_at, slots_at}
-use Rattle.resumed_lanes.specs.Parts.{part_slots}
-use Rattle.resumed_lanes.specs.ResumedLane.{Stand}
-use Rattle.resumed_lanes.specs.Slots.{Slots, slots_in}
-use Rattle.resumed_lanes.specs.Spans.{GoOn}
-use Rattle.resumed_lanes.specs.declared.part.Part.{Part}
-use Rattle.resumed_lanes.specs.declared.place.Place.{Place}
-use Rattle.resumed_lanes.specs.declared.slot_use.SlotUse.{SlotUse}
-use Rattle.resumed_lanes.proofs.AgreeingLemmas.{agreeing_one}
+use Rattle.lanes.specs.declared.planning.PlanFault.{PlanFault}
+use Rattle.lanes.specs.declared.planning.PlanFault.TheVariants.{Memory, NoRoom}
+use Rattle.dual_fields.specs.Agreeing.{Agree, EndsBy}
+use Rattle.dual_fields.specs.Filled.{IsFault, IsFilled, resumes_at, slots_at}
+use Rattle.dual_fields.specs.Parts.{part_slots}
+use Rattle.dual_fields.specs.ResumedLane.{Stand}
+use Rattle.dual_fields.specs.Slots.{Slots, slots_in}
+use Rattle.dual_fields.specs.Spans.{GoOn}
+use Rattle.dual_fields.specs.declared.part.Part.{Part}
+use Rattle.dual_fields.specs.declared.place.Place.{Place}
+use Rattle.dual_fields.specs.declared.slot_use.SlotUse.{SlotUse}
+use Rattle.dual_fields.proofs.AgreeingLemmas.{agreeing_one}
 
 module _ (count : ℕ) (slots : Slots) (uses : List SlotUse) (parts : List Part) (agree : Agree count slots (slots_in uses)) (ends : All (EndsBy count) parts) where
   -- what is filled by a table is filled in the slots that it lists

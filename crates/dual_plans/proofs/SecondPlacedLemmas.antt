@@ -8,16 +8,16 @@ use Rattle.line21_codes.specs.declared.channels.Chan.TheVariants.{Cc1, Cc3}
 use Rattle.line21_codes.specs.declared.channels.FieldNumber.{FieldNumber}
 use Rattle.line21_codes.specs.declared.channels.FieldNumber.TheVariants.{One, Two}
 use Rattle.cue_lists.specs.Listing.{Listing}
-use Rattle.placements.specs.LaneRoom.{AreInCueOrder, HasRoom}
-use Rattle.placements.specs.declared.planning.PlanFault.{PlanFault}
-use Rattle.placements.specs.declared.planning.PlanFault.TheVariants.{NoRoom}
+use Rattle.lanes.specs.LaneRoom.{AreInCueOrder, HasRoom}
+use Rattle.lanes.specs.declared.planning.PlanFault.{PlanFault}
+use Rattle.lanes.specs.declared.planning.PlanFault.TheVariants.{NoRoom}
 use Rattle.frame_scheduler.specs.LaneSets.{fault_beside}
 use Rattle.frame_scheduler.proofs.PlanLemmas.{frames_of}
-use Rattle.placements.specs.Placing.{IsEarliest}
-use Rattle.resumed_lanes.specs.Filled.{IsFault, IsFilled, slots_at}
-use Rattle.resumed_lanes.specs.Parts.{part_cue}
-use Rattle.resumed_lanes.specs.ResumedLane.{resumed_lane}
-use Rattle.resumed_lanes.specs.declared.place.Place.{Place}
+use Rattle.lanes.specs.Placing.{IsEarliest}
+use Rattle.dual_fields.specs.Filled.{IsFault, IsFilled, slots_at}
+use Rattle.dual_fields.specs.Parts.{part_cue}
+use Rattle.dual_fields.specs.ResumedLane.{resumed_lane}
+use Rattle.dual_fields.specs.declared.place.Place.{Place}
 use Rattle.frame_scheduler.specs.Planned.{authored_channel}
 use Rattle.dual_plans.specs.DualAnswer.{HasRoomBeside, IsDualFault}
 use Rattle.dual_plans.specs.DualParts.{IsFirstPlaced, IsSecondFault, slots_placed}

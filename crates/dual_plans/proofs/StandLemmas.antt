@@ -9,24 +9,24 @@ use Rattle.cue_lists.specs.Rules.{IsRuled}
 use Rattle.line21_author.specs.CueEvents.{channel_events}
 use Rattle.line21_author.specs.EventOrder.{AreApart, AreFrom}
 use Rattle.line21_author.specs.declared.event.Event.{Event}
-use Rattle.field_lanes.specs.LaneEvents.{event_at}
+use Rattle.lanes.specs.LaneEvents.{event_at}
 use Rattle.frame_scheduler.specs.SlotLists.{slot_cues, slots_in_list}
-use Rattle.field_lanes.specs.Timeline.{Timeline}
+use Rattle.lanes.specs.Timeline.{Timeline}
 use Rattle.frame_scheduler.proofs.EventsApartLemmas.{events_apart}
 use Rattle.frame_scheduler.proofs.SlotLemmas.{slot_cues_formed, slot_sequence}
-use Rattle.resumed_lanes.specs.FieldSlots.{first_slots, holds}
-use Rattle.resumed_lanes.specs.Filled.{IsFilled, resumes_at, slots_at}
-use Rattle.resumed_lanes.specs.ResumedLane.{Stand}
-use Rattle.resumed_lanes.specs.Spans.{in_spans}
-use Rattle.resumed_lanes.specs.declared.part.Part.{Part}
-use Rattle.resumed_lanes.specs.declared.place.Place.{Place}
-use Rattle.shared_field.specs.SecondChannel.{second_events as coded_events}
-use Rattle.shared_field_shown.specs.Lanes.{AreCues}
-use Rattle.shared_field_shown.specs.Seen.{first_events, second_events}
-use Rattle.shared_field_shown.specs.Together.{IsListed}
-use Rattle.shared_field_shown.proofs.ListedLemmas.{channel_listed}
-use Rattle.shared_field_shown.proofs.SeenLemmas.{free_unless, listed_second, second_not}
-use Rattle.shared_field_shown.proofs.TogetherLemmas.{both_not}
+use Rattle.dual_fields.specs.FieldSlots.{first_slots, holds}
+use Rattle.dual_fields.specs.Filled.{IsFilled, resumes_at, slots_at}
+use Rattle.dual_fields.specs.ResumedLane.{Stand}
+use Rattle.dual_fields.specs.Spans.{in_spans}
+use Rattle.dual_fields.specs.declared.part.Part.{Part}
+use Rattle.dual_fields.specs.declared.place.Place.{Place}
+use Rattle.dual_plans.specs.SecondChannel.{second_events as coded_events}
+use Rattle.dual_fields.specs.Lanes.{AreCues}
+use Rattle.dual_fields.specs.Seen.{first_events, second_events}
+use Rattle.dual_fields.specs.Together.{IsListed}
+use Rattle.dual_fields.proofs.ListedLemmas.{channel_listed}
+use Rattle.dual_fields.proofs.SeenLemmas.{free_unless, listed_second, second_not}
+use Rattle.dual_fields.proofs.TogetherLemmas.{both_not}
 use Rattle.dual_plans.specs.FieldPlaces.{first_units, second_units, slots_for_second}
 use Rattle.dual_plans.specs.PlacedLanes.{CanStand}
 use Rattle.dual_plans.specs.StartedFields.{IsStarted}

@@ -4,17 +4,17 @@ use Rattle.std.specs.Prelude.{◌≡◌, ⊤, ◌⊎◌, ℕ, ◌<◌, List, Som
 use Rattle.line21_codes.specs.declared.channels.FieldNumber.{FieldNumber}
 use Rattle.cue_lists.specs.Listing.{Listing}
 use Rattle.cue_lists.specs.declared.lane.Lane.TheVariants.{Service}
-use Rattle.field_clashes.specs.Clashes.{IsFieldClash, IsLeastClash}
+use Rattle.dual_plans.specs.Clashes.{IsFieldClash, IsLeastClash}
 use Rattle.frame_scheduler.specs.Frames.{GivesFrom, frames_left}
 use Rattle.frame_scheduler.specs.declared.frames.Plan.{Plan}
 use Rattle.frame_scheduler.specs.Planned.{IsLanePlaced, LaneHasRoom, authored_channel}
-use Rattle.placements.specs.LaneRoom.{HasRoom}
-use Rattle.placements.specs.Placing.{IsEarliest}
-use Rattle.programmes.specs.Overlays.{GivesOverlaid}
-use Rattle.resumed_lanes.specs.Parts.{part_cue}
-use Rattle.resumed_lanes.specs.ResumedLane.{resumed_lane}
-use Rattle.shared_field.specs.SecondLanes.{LaysBoth}
-use Rattle.shared_field.specs.declared.second_lanes.SecondLanes.{SecondLanes}
+use Rattle.lanes.specs.LaneRoom.{HasRoom}
+use Rattle.lanes.specs.Placing.{IsEarliest}
+use Rattle.frame_carrier.specs.Overlays.{GivesOverlaid}
+use Rattle.dual_fields.specs.Parts.{part_cue}
+use Rattle.dual_fields.specs.ResumedLane.{resumed_lane}
+use Rattle.dual_plans.specs.SecondLanes.{LaysBoth}
+use Rattle.dual_plans.specs.declared.second_lanes.SecondLanes.{SecondLanes}
 use Rattle.dual_plans.specs.DualPlacement.{DualPlacement, IsDualPlaced, dual_columns}
 use Rattle.dual_plans.specs.FieldPlaces.{GoTogether, first_units, second_units, slots_for_first, slots_for_second}
 use Rattle.dual_plans.specs.OtherList.{AreAlike, IsJudged}

@@ -7,8 +7,8 @@ use Rattle.line21_codes.specs.declared.channels.FieldNumber.{FieldNumber}
 use Rattle.line21_codes.specs.declared.channels.FieldNumber.TheVariants.{One, Two}
 use Rattle.cue_lists.specs.Listing.{Listing}
 use Rattle.frame_scheduler.specs.ServicePlans.{AreServicesPlanned, shared_below}
-use Rattle.placements.specs.declared.planning.PlanFault.{PlanFault}
-use Rattle.resumed_lanes.specs.Filled.{IsFilled, slots_at}
+use Rattle.lanes.specs.declared.planning.PlanFault.{PlanFault}
+use Rattle.dual_fields.specs.Filled.{IsFilled, slots_at}
 use Rattle.dual_plans.specs.DualAnswer.{FieldHasRoom, HasRoomBeside, IsFirstWithout}
 use Rattle.dual_plans.specs.FieldFaults.{IsFaultOf, IsFirstOfFields}
 use Rattle.dual_plans.specs.FieldPlaces.{second_units, slots_for_second}

@@ -12,9 +12,9 @@ use Rattle.cue_lists.specs.declared.lane.Lane.TheVariants.{Service}
 use Rattle.frame_scheduler.specs.Columns.{Columns}
 use Rattle.frame_scheduler.specs.Planned.{IsLanePlaced, Placement, authored_channel, frame_blocks}
 use Rattle.frame_scheduler.specs.SlotLists.{slot_cues}
-use Rattle.field_lanes.specs.Timeline.{slot}
-use Rattle.shared_field_shown.specs.Dual.{Places}
-use Rattle.shared_field_shown.specs.Seen.{field_timeline}
+use Rattle.lanes.specs.Timeline.{slot}
+use Rattle.dual_fields.specs.Dual.{Places}
+use Rattle.dual_fields.specs.Seen.{field_timeline}
 use Rattle.dual_plans.specs.FieldPlaces.{AreFieldsPlaces}
 
 -- where the units of both lists stand in each field, and those of the first list's services

@@ -2,8 +2,8 @@
 -- The first cue without room in one of both fields, and why lanes aren't planned.
 use Rattle.std.specs.Prelude.{⊤, ℕ, ◌<◌}
 use Rattle.line21_codes.specs.declared.channels.FieldNumber.{FieldNumber}
-use Rattle.placements.specs.declared.planning.PlanFault.{PlanFault}
-use Rattle.placements.specs.declared.planning.PlanFault.TheVariants.{Memory, NoRoom}
+use Rattle.lanes.specs.declared.planning.PlanFault.{PlanFault}
+use Rattle.lanes.specs.declared.planning.PlanFault.TheVariants.{Memory, NoRoom}
 
 -- up to the cue one of both fields has no room, and up to each earlier cue both have
 pub record IsFirstOfFields (Has : FieldNumber → ℕ → Type 0) (cue : ℕ) : Type 0 where

@@ -6,18 +6,18 @@ use Rattle.line21_codes.specs.declared.channels.FieldNumber.{FieldNumber}
 use Rattle.line21_codes.specs.Channels.{field_of_channel}
 use Rattle.cue_lists.specs.Listing.{IsFormed, Listing}
 use Rattle.cue_lists.specs.Rules.{IsRuled}
-use Rattle.field_clashes.specs.Clashes.{IsFieldClash}
+use Rattle.dual_plans.specs.Clashes.{IsFieldClash}
 use Rattle.frame_scheduler.specs.Planned.{authored_channel}
 use Rattle.frame_scheduler.specs.SlotLists.{slot_cues}
-use Rattle.placements.specs.Placing.{IsEarliest}
-use Rattle.resumed_lanes.specs.FieldSlots.{first_slots, second_slots}
-use Rattle.resumed_lanes.specs.ResumedLane.{Stand, resumed_lane}
-use Rattle.resumed_lanes.specs.Slots.{Slots}
-use Rattle.resumed_lanes.specs.Spans.{in_spans}
-use Rattle.resumed_lanes.specs.declared.part.Part.{Part}
-use Rattle.shared_field_shown.specs.ChannelParts.{channel_parts}
-use Rattle.shared_field_shown.specs.Dual.{IsDual, Places}
-use Rattle.shared_field_shown.specs.Seen.{first_events, second_events, second_parts}
+use Rattle.lanes.specs.Placing.{IsEarliest}
+use Rattle.dual_fields.specs.FieldSlots.{first_slots, second_slots}
+use Rattle.dual_fields.specs.ResumedLane.{Stand, resumed_lane}
+use Rattle.dual_fields.specs.Slots.{Slots}
+use Rattle.dual_fields.specs.Spans.{in_spans}
+use Rattle.dual_fields.specs.declared.part.Part.{Part}
+use Rattle.dual_fields.specs.ChannelParts.{channel_parts}
+use Rattle.dual_fields.specs.Dual.{IsDual, Places}
+use Rattle.dual_fields.specs.Seen.{first_events, second_events, second_parts}
 use Rattle.dual_plans.specs.OtherList.{AreAlike}
 
 -- the units of the first list in the field of a channel, and those of the second

@@ -1,3 +1,13 @@
+pub mod PartsBehind
+pub mod SecondChannel
+pub mod Beside
+pub mod SecondLanes
+pub mod Joined
+pub mod Others
+pub mod Placeable
+pub mod PlacedUnits
+pub mod CueEvents
+pub mod Clashes
 pub mod OtherList
 pub mod ListLanes
 pub mod FieldPlaces
@@ -8,3 +18,6 @@ pub mod DualAnswer
 pub mod FieldFaults
 pub mod DualParts
 pub mod Verdict
+pub mod DualShown
+pub mod DualBlocks
+pub mod DualPairs

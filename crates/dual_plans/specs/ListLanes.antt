@@ -8,11 +8,11 @@ use Rattle.line21_codes.specs.Writable.{IsWritable}
 use Rattle.cue_lists.specs.Listing.{Listing}
 use Rattle.line21_author.specs.CueEvents.{channel_events}
 use Rattle.frame_scheduler.specs.SlotLists.{slot_cues}
-use Rattle.resumed_lanes.specs.Agreeing.{EndsBy}
-use Rattle.shared_field.specs.Placeable.{ArePlaceable, AreWritable}
-use Rattle.shared_field.specs.SecondChannel.{second_events}
-use Rattle.shared_field_shown.specs.ChannelParts.{channel_parts}
-use Rattle.shared_field_shown.specs.Seen.{second_parts}
+use Rattle.dual_fields.specs.Agreeing.{EndsBy}
+use Rattle.dual_plans.specs.Placeable.{ArePlaceable, AreWritable}
+use Rattle.dual_plans.specs.SecondChannel.{second_events}
+use Rattle.dual_fields.specs.ChannelParts.{channel_parts}
+use Rattle.dual_fields.specs.Seen.{second_parts}
 use Rattle.dual_plans.specs.declared.list_lane.ListLane.{ListLane}
 
 -- the lane has the units and events of the list's cues on the channel

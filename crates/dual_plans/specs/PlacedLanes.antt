@@ -1,12 +1,12 @@
 -- Between crates: the program's answer stands on none of these definitions.
 -- Lanes whose units stand in their places.
 use Rattle.std.specs.Prelude.{◌≡◌, ℕ, true, List, None}
-use Rattle.field_lanes.specs.LaneEvents.{IsFree}
-use Rattle.resumed_lanes.specs.Filled.{resumes_at, slots_at}
-use Rattle.resumed_lanes.specs.ResumedLane.{Stand}
-use Rattle.resumed_lanes.specs.Slots.{Slots}
-use Rattle.resumed_lanes.specs.declared.place.Place.{Place}
-use Rattle.shared_field_shown.specs.Lanes.{AreCues}
+use Rattle.lanes.specs.LaneEvents.{IsFree}
+use Rattle.dual_fields.specs.Filled.{resumes_at, slots_at}
+use Rattle.dual_fields.specs.ResumedLane.{Stand}
+use Rattle.dual_fields.specs.Slots.{Slots}
+use Rattle.dual_fields.specs.declared.place.Place.{Place}
+use Rattle.dual_fields.specs.Lanes.{AreCues}
 use Rattle.dual_plans.specs.declared.list_lane.ListLane.{ListLane}
 
 -- the units are those of cues, and stand in free slots, in which no event of the lane does

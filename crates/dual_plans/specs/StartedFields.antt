@@ -2,10 +2,10 @@
 -- A field in which the units of the first of two lists stand.
 use Rattle.line21_codes.specs.declared.channels.Chan.{Chan}
 use Rattle.cue_lists.specs.Listing.{Listing}
-use Rattle.field_lanes.specs.LaneEvents.{event_at}
+use Rattle.lanes.specs.LaneEvents.{event_at}
 use Rattle.frame_scheduler.specs.SlotLists.{slots_in_list}
-use Rattle.resumed_lanes.specs.FieldSlots.{first_slots}
-use Rattle.resumed_lanes.specs.Filled.{IsFilled}
+use Rattle.dual_fields.specs.FieldSlots.{first_slots}
+use Rattle.dual_fields.specs.Filled.{IsFilled}
 use Rattle.dual_plans.specs.ListLanes.{HasUnitsWithin, IsFirstLane, IsSecondLane}
 use Rattle.dual_plans.specs.declared.field.StartedField.{StartedField}
 

@@ -1,7 +1,7 @@
 ghost use Rattle.std.specs.Prelude.{◌≡◌, IfErr, IfOk};
 ghost use Rattle.cue_lists.specs.Rules.{IsRuled};
 ghost use Rattle.frame_scheduler.specs.SlotLists.{slots_in_list};
-ghost use Rattle.resumed_lanes.specs.Filled.{IsFault, IsFilled, slots_at};
+ghost use Rattle.dual_fields.specs.Filled.{IsFault, IsFilled, slots_at};
 ghost use Rattle.dual_plans.specs.FieldPlaces.{first_units, second_units, slots_for_first, slots_for_second};
 ghost use Rattle.dual_plans.specs.OtherList.{AreAlike};
 ghost use Rattle.dual_plans.specs.StartedFields.{IsStarted};
@@ -9,10 +9,10 @@ ghost use Rattle.dual_plans.specs.StartedFields.{IsStarted};
 use crate::list_lane::{ListLane, first_lane, second_lane};
 use crate::places::{first_places, second_places};
 use cue_lists::CueList;
+use dual_fields::Place;
+use lanes::PlanFault;
 use line21_codes::Chan;
 use line21_slots::Cadence;
-use placements::PlanFault;
-use resumed_lanes::Place;
 use std::alloc::Global;
 
 /// What two lists send in a field, and where the units of the first stand.

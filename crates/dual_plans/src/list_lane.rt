@@ -4,12 +4,12 @@ ghost use Rattle.cue_lists.specs.Rules.{IsRuled};
 ghost use Rattle.dual_plans.specs.ListLanes.{HasUnitsWithin, IsFirstLane, IsSecondLane, IsWritableLane};
 ghost use Rattle.frame_scheduler.specs.SlotLists.{slots_in_list};
 
+use crate::{channel_parts, second_events, second_parts};
 use cue_lists::CueList;
+use dual_fields::Part;
 use line21_author::{Event, events};
 use line21_codes::Chan;
 use line21_slots::Cadence;
-use resumed_lanes::Part;
-use shared_field::{channel_parts, second_events, second_parts};
 use std::alloc::{AllocError, Global};
 
 /// What a list sends in the field of a channel: the units of its cues and its events, in slots of the field.

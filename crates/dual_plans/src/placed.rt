@@ -1,13 +1,13 @@
 ghost use Rattle.std.specs.Prelude.{◌≡◌, IfOk};
 ghost use Rattle.line21_author.specs.EventOrder.{AreApart};
-ghost use Rattle.resumed_lanes.specs.Filled.{resumes_at, slots_at};
-ghost use Rattle.shared_field.specs.Joined.{IsLaneOf};
+ghost use Rattle.dual_fields.specs.Filled.{resumes_at, slots_at};
+ghost use Rattle.dual_plans.specs.Joined.{IsLaneOf};
 ghost use Rattle.dual_plans.specs.PlacedLanes.{CanStand};
 
 use crate::list_lane::ListLane;
-use field_lanes::PlacedField;
-use resumed_lanes::Place;
-use shared_field::units_in;
+use crate::units_in;
+use dual_fields::Place;
+use lanes::PlacedField;
 use std::alloc::{AllocError, Global};
 
 /// A lane with its units in their places, and the first units of cues where they come again, at slot 0. `AllocError` where there is

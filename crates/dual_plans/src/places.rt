@@ -1,13 +1,13 @@
 ghost use Rattle.std.specs.Prelude.{IfErr, IfOk};
-ghost use Rattle.field_lanes.specs.LaneEvents.{event_at};
-ghost use Rattle.resumed_lanes.specs.FieldSlots.{first_slots, second_slots};
-ghost use Rattle.resumed_lanes.specs.Filled.{IsFault, IsFilled, slots_at};
-ghost use Rattle.resumed_lanes.specs.Spans.{in_spans};
+ghost use Rattle.lanes.specs.LaneEvents.{event_at};
+ghost use Rattle.dual_fields.specs.FieldSlots.{first_slots, second_slots};
+ghost use Rattle.dual_fields.specs.Filled.{IsFault, IsFilled, slots_at};
+ghost use Rattle.dual_fields.specs.Spans.{in_spans};
 ghost use Rattle.dual_plans.specs.ListLanes.{HasUnitsWithin};
 
 use crate::list_lane::ListLane;
-use placements::PlanFault;
-use resumed_lanes::{Place, place_all, table, table_beside};
+use dual_fields::{Place, place_all, table, table_beside};
+use lanes::PlanFault;
 use std::alloc::Global;
 
 /// Places the units of the first lane in a field of so many slots, beside the events of the second. The answer is the earliest

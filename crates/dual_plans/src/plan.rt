@@ -4,20 +4,18 @@ ghost use Rattle.dual_plans.specs.DualAnswer.{IsDualFault, IsPlanned};
 ghost use Rattle.dual_plans.specs.DualParts.{AreStarted, IsFieldsFault, IsFirstFault, IsFirstPlaced, IsSecondFault, IsSecondPlaced};
 ghost use Rattle.dual_plans.specs.FieldPlaces.{GoTogether};
 ghost use Rattle.dual_plans.specs.OtherList.{AreAlike};
-ghost use Rattle.programmes.specs.OverlaidFrames.{frames_under, overlay_of};
+ghost use Rattle.frame_carrier.specs.OverlaidFrames.{frames_under, overlay_of};
 
 use crate::fault::DualFault;
 use crate::field::{StartedField, first_field, second_field};
 use crate::other_list::{OtherField, other_field};
 use crate::placed::placed_lane;
+use crate::{Clash, Dual, SecondLanes, dual, field_clash};
 use cue_lists::CueList;
-use field_clashes::{Clash, field_clash};
+use dual_fields::Place;
 use frame_scheduler::{Plan, fault_beside, placed_services};
+use lanes::{PlacedService, PlanFault};
 use line21_codes::Chan;
-use placements::PlanFault;
-use resumed_lanes::Place;
-use service_lanes::PlacedService;
-use shared_field::{Dual, SecondLanes, dual};
 use std::alloc::{AllocError, Global};
 
 /// Both fields with the units of the first list, and its services.

@@ -1,2 +1,4 @@
 pub mod CarriedLemmas
 pub mod CarryingLemmas
+pub mod OnTheWay
+mod WordsLemmas

@@ -1,3 +1,6 @@
 pub mod FrameTriplets
 pub mod Carrying
 pub mod Carried
+pub mod Framing
+pub mod OverlaidFrames
+pub mod Overlays

@@ -1,9 +1,20 @@
-//! Frames as ancillary words: the pairs of a frame, and its service blocks in a caption channel packet, in triplets of cc_data
-//! (CTA-708-E), these in a caption distribution packet (SMPTE ST 334-2), and this in an ancillary packet (SMPTE ST 334-1).
+//! Programmes as ancillary words. The pairs of a frame and its service blocks stand in triplets of cc_data (CTA-708-E), these in a
+//! caption distribution packet (SMPTE ST 334-2), and this in an ancillary packet (SMPTE ST 334-1). A programme is frames in order,
+//! whatever makes them; its words are put into a sink.
 #![tactic(auto)]
 
-mod carrier;
-pub mod laws;
-mod triplets;
-
 pub use crate::carrier::Carrier;
+pub use crate::gathered_words::GatheredWords;
+pub use crate::overlaid::Overlaid;
+pub use crate::overlay::Overlay;
+pub use crate::programme::Programme;
+pub use crate::put::{Output, Words, put_words};
+
+mod carrier;
+mod gathered_words;
+pub mod laws;
+mod overlaid;
+mod overlay;
+mod programme;
+mod put;
+mod triplets;

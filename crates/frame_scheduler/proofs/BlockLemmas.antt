@@ -4,7 +4,7 @@ use Rattle.std.proofs.lemmas.List.{drop_all, take-append-drop, take_all, take_mo
 use Rattle.std.proofs.lemmas.List.Concat.{flat_map-append}
 use Rattle.std.proofs.lemmas.List.Sums.{sum_by-cons, sum_by_push}
 use Rattle.frame_scheduler.specs.Blocks.{blocks_room, lane_block, moved_on, next_blocks}
-use Rattle.service_lanes.specs.ServicePlan.{PlannedService}
+use Rattle.lanes.specs.ServicePlan.{PlannedService}
 
 -- lanes of which the first have moved on
 abbrev pub partly : ℕ → List PlannedService → List PlannedService

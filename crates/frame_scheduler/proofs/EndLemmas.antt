@@ -24,26 +24,26 @@ use Rattle.line21_codes.specs.declared.channels.Chan.TheVariants.{Cc1, Cc3}
 use Rattle.line21_codes.specs.declared.pairs.Pair.{Pair}
 use Rattle.line21_slots.specs.Cadences.{cadence_of, has_slot_in, slot_from}
 use Rattle.line21_slots.proofs.CadenceLemmas.{slots_rise}
-use Rattle.placements.specs.Placing.{IsPlaced}
-use Rattle.service_lanes.proofs.CaptionsKept.{captions_kept}
-use Rattle.service_lanes.specs.Chunks.{ServiceChunk}
-use Rattle.service_lanes.specs.ServiceBytes.{loads_at}
-use Rattle.service_lanes.specs.ServiceChunks.{chunk_of, chunks_with, service_chunks_from}
-use Rattle.service_lanes.specs.ServiceRoom.{caption_lane}
+use Rattle.lanes.specs.Placing.{IsPlaced}
+use Rattle.lanes.proofs.CaptionsKept.{captions_kept}
+use Rattle.lanes.specs.Chunks.{ServiceChunk}
+use Rattle.lanes.specs.ServiceBytes.{loads_at}
+use Rattle.lanes.specs.ServiceChunks.{chunk_of, chunks_with, service_chunks_from}
+use Rattle.lanes.specs.ServiceRoom.{caption_lane}
 use Rattle.frame_scheduler.specs.Blocks.{service_block}
-use Rattle.field_lanes.specs.ChannelLane.{IsChannelPlaced, channel_chunks}
+use Rattle.lanes.specs.ChannelLane.{IsChannelPlaced, channel_chunks}
 use Rattle.frame_scheduler.specs.End.{NothingBehindTheEnd, silent_pair}
-use Rattle.field_lanes.specs.FieldLane.{field_lane}
-use Rattle.field_lanes.specs.LaneDoubling.{AreEnded}
-use Rattle.field_lanes.specs.LaneEvents.{event_at}
-use Rattle.field_lanes.specs.LaneTimeline.{lane_timeline, stands}
+use Rattle.lanes.specs.FieldLane.{field_lane}
+use Rattle.lanes.specs.LaneDoubling.{AreEnded}
+use Rattle.lanes.specs.LaneEvents.{event_at}
+use Rattle.lanes.specs.LaneTimeline.{lane_timeline, stands}
 use Rattle.frame_scheduler.specs.Planned.{captions_in, channel_pair, chunks_in, frame_blocks, service_bytes, service_lane_of, services, share_in}
 use Rattle.frame_scheduler.specs.SlotLists.{slot_cues, slots_in_list}
-use Rattle.field_lanes.specs.Timeline.{slot}
+use Rattle.lanes.specs.Timeline.{slot}
 use Rattle.frame_scheduler.specs.declared.frames.FrameBytes.{FrameBytes}
-use Rattle.field_lanes.specs.declared.chunk.FieldChunk.{FieldChunk}
-use Rattle.field_lanes.proofs.DoublingLemmas.{free_none, lane_ended, over_cases, unit_begins}
-use Rattle.field_lanes.proofs.EventLemmas.{free_over, over_later, some_slot}
+use Rattle.lanes.specs.declared.chunk.FieldChunk.{FieldChunk}
+use Rattle.lanes.proofs.DoublingLemmas.{free_none, lane_ended, over_cases, unit_begins}
+use Rattle.lanes.proofs.EventLemmas.{free_over, over_later, some_slot}
 use Rattle.frame_scheduler.proofs.ListDoublingLemmas.{channel_ended}
 
 -- what has ended by a slot has ended by each later one

@@ -3,8 +3,8 @@ use Rattle.std.proofs.Common.{◌≡◌, ◌<◌, ◌⊎◌, inl, inr, ℕ, sym,
 use Rattle.std.proofs.lemmas.Bool.{cases_lt}
 use Rattle.cue_lists.specs.Listing.{Listing}
 use Rattle.cue_lists.specs.declared.lane.Lane.{Lane}
-use Rattle.placements.specs.declared.planning.PlanFault.{PlanFault}
-use Rattle.placements.specs.declared.planning.PlanFault.TheVariants.{Memory, NoRoom}
+use Rattle.lanes.specs.declared.planning.PlanFault.{PlanFault}
+use Rattle.lanes.specs.declared.planning.PlanFault.TheVariants.{Memory, NoRoom}
 use Rattle.frame_scheduler.specs.LaneSets.{IsFaultIn, IsFirstIn, earlier_fault}
 use Rattle.frame_scheduler.specs.Planned.{LaneHasRoom}
 

@@ -24,27 +24,27 @@ use Rattle.line21_author.specs.CueEvents.{channel_events}
 use Rattle.line21_slots.proofs.CadenceLemmas.{slot_from_first}
 use Rattle.line21_author.proofs.CueSlotLemmas.{cues_formed_in_slots}
 use Rattle.line21_author.specs.declared.event.Event.{Event}
-use Rattle.field_lanes.specs.ChannelLane.{IsChannelPlaced, channel_chunks, channel_slot, channel_chunks_from}
-use Rattle.field_lanes.specs.FieldLane.{field_lane}
-use Rattle.field_lanes.specs.FieldPlan.{IsFieldPlan, IsFieldFault, PlannedField, lane_pair, slot_pair, field_chunk_cue}
-use Rattle.field_lanes.specs.LaneTimeline.{placed_timeline}
-use Rattle.placements.specs.Placing.{IsEarliest, IsPlaced}
+use Rattle.lanes.specs.ChannelLane.{IsChannelPlaced, channel_chunks, channel_slot, channel_chunks_from}
+use Rattle.lanes.specs.FieldLane.{field_lane}
+use Rattle.lanes.specs.FieldPlan.{IsFieldPlan, IsFieldFault, PlannedField, lane_pair, slot_pair, field_chunk_cue}
+use Rattle.lanes.specs.LaneTimeline.{placed_timeline}
+use Rattle.lanes.specs.Placing.{IsEarliest, IsPlaced}
 use Rattle.frame_scheduler.specs.SlotLists.{slot_cues}
 use Rattle.frame_scheduler.specs.LaneSets.{IsFaultIn, IsField, IsFirstIn, fault_beside}
 use Rattle.frame_scheduler.specs.Planned.{captions_in, channel_pair, chunks_in, LaneHasRoom, IsFirstWithoutRoom, IsLanePlaced, IsListPlaced, Placement, service_lane_of, share_in}
-use Rattle.service_lanes.specs.ServiceChunks.{service_chunk_cue}
-use Rattle.service_lanes.specs.ServicePlan.{IsServiceFault}
-use Rattle.service_lanes.proofs.ChunkOrderLemmas.{chunks_in_order}
+use Rattle.lanes.specs.ServiceChunks.{service_chunk_cue}
+use Rattle.lanes.specs.ServicePlan.{IsServiceFault}
+use Rattle.lanes.proofs.ChunkOrderLemmas.{chunks_in_order}
 use Rattle.frame_scheduler.proofs.LaneSetLemmas.{IsRoomy, fault_of_both, fault_of_p, fault_of_q}
-use Rattle.field_lanes.specs.Timeline.{slot}
-use Rattle.field_lanes.specs.declared.chunk.FieldChunk.{FieldChunk}
-use Rattle.field_lanes.specs.declared.placed_unit.PlacedUnit.{PlacedUnit}
-use Rattle.placements.specs.declared.planning.PlanFault.{PlanFault}
-use Rattle.placements.specs.declared.planning.PlanFault.TheVariants.{Memory, NoRoom}
-use Rattle.field_lanes.proofs.ChannelOrderLemmas.{channel_in_order}
-use Rattle.field_lanes.proofs.LanePlanLemmas.{timeline_is}
-use Rattle.placements.proofs.LaneRoomLemmas.{room_all}
-use Rattle.placements.proofs.PlacingLemmas.{earliest_none, earliest_same}
+use Rattle.lanes.specs.Timeline.{slot}
+use Rattle.lanes.specs.declared.chunk.FieldChunk.{FieldChunk}
+use Rattle.lanes.specs.declared.placed_unit.PlacedUnit.{PlacedUnit}
+use Rattle.lanes.specs.declared.planning.PlanFault.{PlanFault}
+use Rattle.lanes.specs.declared.planning.PlanFault.TheVariants.{Memory, NoRoom}
+use Rattle.lanes.proofs.ChannelOrderLemmas.{channel_in_order}
+use Rattle.lanes.proofs.LanePlanLemmas.{timeline_is}
+use Rattle.lanes.proofs.LaneRoomLemmas.{room_all}
+use Rattle.lanes.proofs.PlacingLemmas.{earliest_none, earliest_same}
 
 -- no cue is on a channel that isn't authored
 other_channel : (channel own : Chan) → (IsAuthoredChannel channel → ⊥) → IsAuthoredChannel own → same_channel channel own ≡ false

@@ -28,17 +28,17 @@ use Rattle.line21_author.specs.declared.unit.Unit.{Unit}
 use Rattle.line21_author.proofs.CueEventsLemmas.{channel_events_control}
 use Rattle.line21_author.proofs.CueUnitsLemmas.{units_of_carried}
 use Rattle.line21_author.proofs.SlotSequenceLemmas.{IsSoundInSlots, all_sound_in_slots}
-use Rattle.field_lanes.specs.declared.chunk.FieldChunk.{FieldChunk}
-use Rattle.field_lanes.specs.ChannelLane.{IsChannelPlaced, channel_chunks, field_cue_chunks, channel_chunks_from}
+use Rattle.lanes.specs.declared.chunk.FieldChunk.{FieldChunk}
+use Rattle.lanes.specs.ChannelLane.{IsChannelPlaced, channel_chunks, field_cue_chunks, channel_chunks_from}
 use Rattle.frame_scheduler.specs.Columns.{Columns, first_pairs, pair_in}
-use Rattle.field_lanes.specs.DoubledPairs.{IsDoubled}
-use Rattle.field_lanes.specs.LaneDoubling.{AreDoubledControls, AreEnded}
-use Rattle.field_lanes.specs.LaneEvents.{AreOver, event_at}
-use Rattle.field_lanes.specs.LaneTimeline.{lane_timeline}
+use Rattle.lanes.specs.DoubledPairs.{IsDoubled}
+use Rattle.lanes.specs.LaneDoubling.{AreDoubledControls, AreEnded}
+use Rattle.lanes.specs.LaneEvents.{AreOver, event_at}
+use Rattle.lanes.specs.LaneTimeline.{lane_timeline}
 use Rattle.frame_scheduler.specs.Planned.{IsListPlaced, Placement, columns_of}
 use Rattle.frame_scheduler.specs.SlotLists.{slot_cues, slots_in_list}
-use Rattle.field_lanes.specs.Timeline.{Timeline, column, slot}
-use Rattle.field_lanes.proofs.DoublingLemmas.{lane_doubled}
+use Rattle.lanes.specs.Timeline.{Timeline, column, slot}
+use Rattle.lanes.proofs.DoublingLemmas.{lane_doubled}
 use Rattle.frame_scheduler.proofs.EventsApartLemmas.{events_apart, events_within}
 use Rattle.frame_scheduler.proofs.SlotLemmas.{slot_cues_formed, slot_sequence}
 

@@ -10,12 +10,12 @@ use Rattle.line21_slots.specs.Cadences.{cadence_of, has_slot_in, slot_from}
 use Rattle.line21_slots.specs.declared.cadence.Cadence.{Cadence}
 use Rattle.line21_slots.proofs.CadenceLemmas.{slot_more, slot_no_more}
 use Rattle.std.proofs.lemmas.List.Sums.{sum_by-cons}
-use Rattle.service_lanes.specs.ServicePlan.{PlannedService}
+use Rattle.lanes.specs.ServicePlan.{PlannedService}
 use Rattle.frame_scheduler.specs.Blocks.{blocks_of, blocks_room, lane_block, moved_on, next_blocks}
 use Rattle.frame_scheduler.specs.ServicesLeft.{HasLeft, IsNumbered}
 use Rattle.frame_scheduler.specs.Columns.{Columns}
 use Rattle.frame_scheduler.specs.Frames.{GivesFrom}
-use Rattle.field_lanes.specs.FieldPlan.{PlannedField, behind_frame, given_in, lane_pair, slot_pair}
+use Rattle.lanes.specs.FieldPlan.{PlannedField, behind_frame, given_in, lane_pair, slot_pair}
 use Rattle.frame_scheduler.specs.declared.frames.FrameBytes.{FrameBytes}
 use Rattle.frame_scheduler.specs.declared.frames.Plan.{Plan}
 

@@ -19,15 +19,15 @@ use Rattle.cue_lists.specs.Shares.{share_room, shares_taken}
 use Rattle.cue_lists.specs.declared.lane.Lane.{Lane}
 use Rattle.cue_lists.specs.declared.lane.Lane.TheVariants.{Channel, Service}
 use Rattle.cue_lists.specs.declared.list.Share.{Share}
-use Rattle.placements.specs.declared.planning.PlanFault.{PlanFault}
-use Rattle.placements.specs.declared.planning.PlanFault.TheVariants.{Memory, NoRoom}
-use Rattle.placements.proofs.PlacingLemmas.{earliest_same}
-use Rattle.service_lanes.proofs.ChunkOrderLemmas.{none_sent}
-use Rattle.service_lanes.specs.ServiceBytes.{bytes_in}
-use Rattle.service_lanes.specs.ServicePlan.{PlannedService, lane_bytes}
+use Rattle.lanes.specs.declared.planning.PlanFault.{PlanFault}
+use Rattle.lanes.specs.declared.planning.PlanFault.TheVariants.{Memory, NoRoom}
+use Rattle.lanes.proofs.PlacingLemmas.{earliest_same}
+use Rattle.lanes.proofs.ChunkOrderLemmas.{none_sent}
+use Rattle.lanes.specs.ServiceBytes.{bytes_in}
+use Rattle.lanes.specs.ServicePlan.{PlannedService, lane_bytes}
 use Rattle.frame_scheduler.specs.Blocks.{blocks_of, blocks_room, lane_block, service_block}
 use Rattle.frame_scheduler.specs.Frames.{AreFieldsPlanned, PlanAnswer}
-use Rattle.field_lanes.specs.FieldPlan.{PlannedField, lane_pair}
+use Rattle.lanes.specs.FieldPlan.{PlannedField, lane_pair}
 use Rattle.frame_scheduler.specs.LaneSets.{IsFaultIn, IsField, IsServiceBelow, earlier_fault, fault_beside}
 use Rattle.frame_scheduler.specs.Planned.{IsLanePlaced, Placement, captions_in, chunks_in, frame_blocks, service_bytes, service_lane_of, services}
 use Rattle.frame_scheduler.specs.ServicePlans.{AreServices, AreServicesPlanned, IsServicePlanned, shared_below}

@@ -10,26 +10,26 @@ use Rattle.cue_lists.specs.Listing.{IsFormed, Listing}
 use Rattle.cue_lists.specs.declared.lane.Lane.TheVariants.{Channel, Service}
 use Rattle.line21_author.specs.CueEvents.{channel_events}
 use Rattle.line21_author.specs.declared.event.Event.{Event}
-use Rattle.field_lanes.specs.declared.chunk.FieldChunk.{FieldChunk}
-use Rattle.field_lanes.specs.ChannelLane.{channel_chunks}
-use Rattle.field_lanes.specs.FieldLane.{IsAllowedInField, end_of, field_lane, slots_of}
-use Rattle.placements.specs.FirstFit.{IsFirst}
-use Rattle.field_lanes.specs.LaneEvents.{IsFree}
-use Rattle.field_lanes.specs.LaneFront.{AreFree}
-use Rattle.field_lanes.specs.FieldPlan.{field_chunk_cue}
-use Rattle.placements.specs.LaneRoom.{AreInCueOrder, IsFirstCrowded}
-use Rattle.placements.specs.OneMore.{FitsEarlier}
-use Rattle.placements.specs.Placing.{HasEarliest, IsEarliest}
+use Rattle.lanes.specs.declared.chunk.FieldChunk.{FieldChunk}
+use Rattle.lanes.specs.ChannelLane.{channel_chunks}
+use Rattle.lanes.specs.FieldLane.{IsAllowedInField, end_of, field_lane, slots_of}
+use Rattle.lanes.specs.FirstFit.{IsFirst}
+use Rattle.lanes.specs.LaneEvents.{IsFree}
+use Rattle.lanes.specs.LaneFront.{AreFree}
+use Rattle.lanes.specs.FieldPlan.{field_chunk_cue}
+use Rattle.lanes.specs.LaneRoom.{AreInCueOrder, IsFirstCrowded}
+use Rattle.lanes.specs.OneMore.{FitsEarlier}
+use Rattle.lanes.specs.Placing.{HasEarliest, IsEarliest}
 use Rattle.cue_lists.specs.Rules.{IsRuled}
 use Rattle.cue_lists.specs.declared.lane.Lane.{Lane}
 use Rattle.dtvcc_author.specs.FrameEvents.{delay_end}
-use Rattle.placements.specs.declared.planning.PlanFault.TheVariants.{NoRoom}
-use Rattle.service_lanes.specs.ServiceChunks.{service_chunk_cue}
-use Rattle.service_lanes.specs.ServiceLane.{AreUpTo, chunk_size, most_in_delay, IsAllowedInService, used}
-use Rattle.service_lanes.specs.ServiceRoom.{frame_room}
-use Rattle.service_lanes.specs.Chunks.{ServiceChunk}
-use Rattle.service_lanes.proofs.ChunkOrderLemmas.{chunks_in_order}
-use Rattle.service_lanes.proofs.ServiceLaneLemmas.{chunks_fit_earlier}
+use Rattle.lanes.specs.declared.planning.PlanFault.TheVariants.{NoRoom}
+use Rattle.lanes.specs.ServiceChunks.{service_chunk_cue}
+use Rattle.lanes.specs.ServiceLane.{AreUpTo, chunk_size, most_in_delay, IsAllowedInService, used}
+use Rattle.lanes.specs.ServiceRoom.{frame_room}
+use Rattle.lanes.specs.Chunks.{ServiceChunk}
+use Rattle.lanes.proofs.ChunkOrderLemmas.{chunks_in_order}
+use Rattle.lanes.proofs.ServiceLaneLemmas.{chunks_fit_earlier}
 use Rattle.frame_scheduler.specs.LaneSets.{IsField, IsFirstIn, IsServiceBelow}
 use Rattle.frame_scheduler.specs.Planned.{IsLanePlaced, IsListPlaced, Placement, captions_in, chunks_in, service_lane_of, share_in}
 use Rattle.frame_scheduler.proofs.LaneSetLemmas.{IsRoomy, first_of_both, first_of_p, first_of_q}
@@ -37,11 +37,11 @@ use Rattle.frame_scheduler.proofs.PlanLemmas.{cover}
 use Rattle.frame_scheduler.proofs.ServicesLemmas.{below_more, cover_below, only_below, unshared, unshared_placed}
 use Rattle.frame_scheduler.specs.Planned as list
 use Rattle.frame_scheduler.specs.SlotLists.{slot_cues}
-use Rattle.field_lanes.proofs.ChannelOrderLemmas.{channel_in_order}
-use Rattle.field_lanes.proofs.FieldLaneLemmas.{fits_earlier}
-use Rattle.placements.proofs.LaneRoomLemmas.{no_room_at}
+use Rattle.lanes.proofs.ChannelOrderLemmas.{channel_in_order}
+use Rattle.lanes.proofs.FieldLaneLemmas.{fits_earlier}
+use Rattle.lanes.proofs.LaneRoomLemmas.{no_room_at}
 use Rattle.frame_scheduler.proofs.LanesLemmas.{IsAny, IsOnly, channel_fault, cover_fields, earliest_room, first_of_any, in_fields, placed_everywhere, placement, service_fault, service_room}
-use Rattle.placements.proofs.PlacingLemmas.{earliest_none, one_more}
+use Rattle.lanes.proofs.PlacingLemmas.{earliest_none, one_more}
 
 -- a fact, or what denies it
 abbrev Decided : Type 0 → Type 0

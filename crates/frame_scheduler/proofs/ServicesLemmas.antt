@@ -7,7 +7,7 @@ use Rattle.std.proofs.lemmas.List.Elements.{All-head, All-tail}
 use Rattle.std.proofs.lemmas.Result.{IfErr-weaker}
 use Rattle.cc_base.specs.declared.rate.Rate.{Rate}
 use Rattle.dtvcc_author.specs.Captions.{service_captions}
-use Rattle.service_lanes.specs.ServiceChunks.{service_chunks}
+use Rattle.lanes.specs.ServiceChunks.{service_chunks}
 use Rattle.cue_lists.specs.declared.cue.Cue.{Cue}
 use Rattle.cue_lists.specs.Listing.{IsFormed, Listing, share_of}
 use Rattle.cue_lists.specs.Rules.{IsRuled}
@@ -15,12 +15,12 @@ use Rattle.cue_lists.specs.Shares.{IsShare}
 use Rattle.cue_lists.specs.declared.lane.Lane.{Lane}
 use Rattle.cue_lists.specs.declared.lane.Lane.TheVariants.{Channel, Service}
 use Rattle.cue_lists.specs.declared.list.Share.{Share}
-use Rattle.placements.specs.Placing.{IsEarliest}
-use Rattle.placements.specs.declared.planning.PlanFault.{PlanFault}
-use Rattle.placements.specs.declared.planning.PlanFault.TheVariants.{Memory, NoRoom}
-use Rattle.placements.proofs.PlacingLemmas.{earliest_none}
-use Rattle.service_lanes.specs.ServicePlan.{IsServiceFault, IsServicePlan, PlannedService}
-use Rattle.service_lanes.proofs.ChunkOrderLemmas.{none_sent}
+use Rattle.lanes.specs.Placing.{IsEarliest}
+use Rattle.lanes.specs.declared.planning.PlanFault.{PlanFault}
+use Rattle.lanes.specs.declared.planning.PlanFault.TheVariants.{Memory, NoRoom}
+use Rattle.lanes.proofs.PlacingLemmas.{earliest_none}
+use Rattle.lanes.specs.ServicePlan.{IsServiceFault, IsServicePlan, PlannedService}
+use Rattle.lanes.proofs.ChunkOrderLemmas.{none_sent}
 use Rattle.frame_scheduler.specs.LaneSets.{IsFaultIn, IsServiceBelow}
 use Rattle.frame_scheduler.specs.Planned.{IsLanePlaced, captions_in, chunks_in, service_lane_of, share_in}
 use Rattle.frame_scheduler.specs.ServicePlans.{AreServices, AreServicesPlanned, IsBeside, IsServicePlanned, shared_below}

@@ -3,7 +3,7 @@
 use Rattle.std.specs.Prelude.{ℕ, ◌+◌, List, [], ◌∷◌, sum_by}
 use Rattle.std.specs.List.{flat_map}
 use Rattle.service_blocks.specs.Written.{block_written}
-use Rattle.service_lanes.specs.ServicePlan.{PlannedService, lane_bytes}
+use Rattle.lanes.specs.ServicePlan.{PlannedService, lane_bytes}
 
 -- the block of a service, where it is sent something
 abbrev pub service_block : ℕ → List ℕ → List ℕ

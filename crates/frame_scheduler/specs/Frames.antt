@@ -5,12 +5,12 @@ use Rattle.line21_codes.specs.declared.channels.Chan.TheVariants.{Cc1, Cc3}
 use Rattle.cue_lists.specs.Listing.{Listing}
 use Rattle.line21_slots.specs.Cadences.{cadence_of, slot_from}
 use Rattle.frame_scheduler.specs.declared.frames.Plan.{Plan}
-use Rattle.placements.specs.declared.planning.PlanFault.{PlanFault}
-use Rattle.placements.specs.declared.planning.PlanFault.TheVariants.{Memory, NoRoom}
+use Rattle.lanes.specs.declared.planning.PlanFault.{PlanFault}
+use Rattle.lanes.specs.declared.planning.PlanFault.TheVariants.{Memory, NoRoom}
 use Rattle.frame_scheduler.specs.Blocks.{blocks_of}
 use Rattle.frame_scheduler.specs.Columns.{Columns}
-use Rattle.field_lanes.specs.FieldPlan.{IsFieldPlan, PlannedField, lane_pair}
-use Rattle.field_lanes.specs.ChannelLane.{channel_chunks}
+use Rattle.lanes.specs.FieldPlan.{IsFieldPlan, PlannedField, lane_pair}
+use Rattle.lanes.specs.ChannelLane.{channel_chunks}
 use Rattle.frame_scheduler.specs.SlotLists.{slot_cues}
 use Rattle.line21_author.specs.CueEvents.{channel_events}
 use Rattle.frame_scheduler.specs.Planned.{IsFirstWithoutRoom, IsListPlaced, Placement, columns_of}

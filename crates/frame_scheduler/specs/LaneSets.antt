@@ -4,8 +4,8 @@ use Rattle.std.specs.Prelude.{ℕ, ◌<◌, min, ⊤, Option, Some, None}
 use Rattle.cue_lists.specs.Listing.{Listing}
 use Rattle.cue_lists.specs.declared.lane.Lane.{Lane}
 use Rattle.cue_lists.specs.declared.lane.Lane.TheVariants.{Channel, Service}
-use Rattle.placements.specs.declared.planning.PlanFault.{PlanFault}
-use Rattle.placements.specs.declared.planning.PlanFault.TheVariants.{Memory, NoRoom}
+use Rattle.lanes.specs.declared.planning.PlanFault.{PlanFault}
+use Rattle.lanes.specs.declared.planning.PlanFault.TheVariants.{Memory, NoRoom}
 use Rattle.frame_scheduler.specs.Planned.{LaneHasRoom}
 
 -- the lane of a channel

@@ -15,16 +15,16 @@ use Rattle.line21_slots.specs.Cadences.{cadence_of, slot_in}
 use Rattle.line21_author.specs.CueEvents.{channel_events}
 use Rattle.dtvcc_author.specs.Captions.{service_captions}
 use Rattle.dtvcc_author.specs.declared.caption.Caption.{Caption}
-use Rattle.field_lanes.specs.ChannelLane.{IsChannelPlaced, channel_chunks, channel_slot}
+use Rattle.lanes.specs.ChannelLane.{IsChannelPlaced, channel_chunks, channel_slot}
 use Rattle.frame_scheduler.specs.Columns.{Columns}
-use Rattle.field_lanes.specs.FieldLane.{field_lane}
-use Rattle.field_lanes.specs.FieldPlan.{field_chunk_cue}
-use Rattle.placements.specs.LaneRoom as room
-use Rattle.placements.specs.Placing.{IsEarliest}
-use Rattle.service_lanes.specs.ServiceBytes.{bytes_in}
-use Rattle.service_lanes.specs.ServiceChunks.{service_chunk_cue, service_chunks}
-use Rattle.service_lanes.specs.ServiceRoom.{caption_lane}
-use Rattle.service_lanes.specs.Chunks.{ServiceChunk}
+use Rattle.lanes.specs.FieldLane.{field_lane}
+use Rattle.lanes.specs.FieldPlan.{field_chunk_cue}
+use Rattle.lanes.specs.LaneRoom as room
+use Rattle.lanes.specs.Placing.{IsEarliest}
+use Rattle.lanes.specs.ServiceBytes.{bytes_in}
+use Rattle.lanes.specs.ServiceChunks.{service_chunk_cue, service_chunks}
+use Rattle.lanes.specs.ServiceRoom.{caption_lane}
+use Rattle.lanes.specs.Chunks.{ServiceChunk}
 use Rattle.frame_scheduler.specs.Blocks.{service_block}
 use Rattle.frame_scheduler.specs.SlotLists.{slot_cues}
 

@@ -3,9 +3,9 @@
 use Rattle.std.specs.Prelude.{◌≡◌, ℕ, zero, suc, is_some, if◌then◌else◌, List, [], ◌∷◌, ◌++◌, ⊤, Result, Ok, Err, Vec}
 use Rattle.std.specs.Global.{Global}
 use Rattle.cue_lists.specs.Listing.{Listing, share_of}
-use Rattle.placements.specs.declared.planning.PlanFault.{PlanFault}
-use Rattle.placements.specs.declared.planning.PlanFault.TheVariants.{Memory, NoRoom}
-use Rattle.service_lanes.specs.ServicePlan.{IsServicePlan, PlannedService}
+use Rattle.lanes.specs.declared.planning.PlanFault.{PlanFault}
+use Rattle.lanes.specs.declared.planning.PlanFault.TheVariants.{Memory, NoRoom}
+use Rattle.lanes.specs.ServicePlan.{IsServicePlan, PlannedService}
 use Rattle.frame_scheduler.specs.LaneSets.{IsFaultIn, IsServiceBelow, earlier_fault}
 use Rattle.frame_scheduler.specs.Planned.{captions_in, chunks_in, share_in}
 

@@ -1,7 +1,7 @@
 -- Between crates: the program's answer stands on none of these definitions.
 -- The lanes of services of a plan: their services, and the frames that are left for them.
 use Rattle.std.specs.Prelude.{ℕ, ◌+◌, ◌^◌, ◌<◌, ◌≤◌}
-use Rattle.service_lanes.specs.ServicePlan.{PlannedService}
+use Rattle.lanes.specs.ServicePlan.{PlannedService}
 
 -- the service is one of those whose blocks have a header byte
 pub record IsNumbered (planned : PlannedService) : Type 0 where

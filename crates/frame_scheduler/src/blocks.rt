@@ -3,8 +3,8 @@ ghost use Rattle.frame_scheduler.specs.Blocks.{blocks_room, lane_block, moved_on
 ghost use Rattle.frame_scheduler.specs.ServicesLeft.{IsNumbered};
 
 use arrayvec::ArrayVec;
+use lanes::PlacedService;
 use service_blocks::write_block;
-use service_lanes::PlacedService;
 
 /// The service blocks of the next frame, one for each lane that is sent something in it.
 pub(crate) fn next_blocks(services: &mut [PlacedService]) -> ArrayVec<u8, 35>

@@ -2,15 +2,14 @@ ghost use Rattle.std.specs.Prelude.{◌≡◌, ◌+◌, ◌^◌, ◌<◌, ◌≤
 ghost use Rattle.frame_scheduler.specs.Blocks.{blocks_room};
 ghost use Rattle.frame_scheduler.specs.End.{silent_frame, silent_pair};
 ghost use Rattle.frame_scheduler.specs.ServicesLeft.{HasLeft, IsNumbered};
-ghost use Rattle.field_lanes.specs.FieldPlan.{PlannedField, behind_frame, given_in};
+ghost use Rattle.lanes.specs.FieldPlan.{PlannedField, behind_frame, given_in};
 
 use crate::blocks::next_blocks;
 use arrayvec::ArrayVec;
 use cc_base::Rate;
-use field_lanes::PlacedField;
+use lanes::{PlacedField, PlacedService};
 use line21_codes::{Chan, NULL_PAIR, Pair};
 use line21_slots::Cadence;
-use service_lanes::PlacedService;
 
 /// What one frame carries.
 #[derive(Debug, Drop)]

@@ -3,10 +3,10 @@
 #![tactic(auto)]
 
 pub use crate::frames::{FrameBytes, Frames, Plan};
-pub use crate::lanes::{fault_beside, placed_services, plan};
-pub use placements::PlanFault;
+pub use crate::planning::{fault_beside, placed_services, plan};
+pub use lanes::PlanFault;
 
 mod blocks;
 mod frames;
-mod lanes;
 pub mod laws;
+mod planning;

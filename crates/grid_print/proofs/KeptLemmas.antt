@@ -9,7 +9,7 @@ use Rattle.dtvcc_services.proofs.PlaceLemmas.{set_count, set_other, set_same}
 use Rattle.dtvcc_windows.specs.declared.window.Window.{Window}
 use Rattle.dtvcc_windows.specs.Objects.{window_of}
 use Rattle.dtvcc_windows.specs.Showing.{ShownWindow, shown}
-use Rattle.window_texts.specs.Differences.{differs}
+use Rattle.grid_print.specs.Differences.{differs}
 use Rattle.grid_print.specs.declared.kept.Kept.{Kept}
 use Rattle.grid_print.specs.GridTexts.{service_differs}
 use Rattle.grid_print.specs.Keeping.{KeepsWindows, window_seen, windows_seen}

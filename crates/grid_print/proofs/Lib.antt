@@ -1,3 +1,12 @@
+pub mod AlikeLemmas
+pub mod FrontLemmas
+pub mod CellRowLemmas
+pub mod RunLemmas
+pub mod CellRunsOfLemmas
+pub mod WindowRowLemmas
+pub mod WindowTextLemmas
+pub mod WindowRunsOfLemmas
+pub mod DifferenceLemmas
 pub mod TextLemmas
 pub mod RowLemmas
 pub mod RunsOfLemmas

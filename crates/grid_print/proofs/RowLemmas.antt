@@ -4,9 +4,9 @@ use Rattle.std.proofs.lemmas.Bool.{cases_lt}
 use Rattle.std.proofs.lemmas.List.{get_or_past}
 use Rattle.std.proofs.lemmas.List.FromFn.{get_or-map-range_with_len, length-map-range_with_len}
 use Rattle.std.specs.List.{flat_map, range_with_len}
-use Rattle.cell_runs.specs.Runs.{Run}
-use Rattle.cell_runs.specs.Writing.{in_styles}
-use Rattle.cell_runs.proofs.RowLemmas.{empty_row, nothing_more, nothing_of_each}
+use Rattle.grid_print.specs.CellRuns.{Run}
+use Rattle.grid_print.specs.Writing.{in_styles}
+use Rattle.grid_print.proofs.CellRowLemmas.{empty_row, nothing_more, nothing_of_each}
 use Rattle.line21_codes.specs.declared.styles.Cell.{Cell}
 use Rattle.line21_screen.specs.Grid.{Grid, row_cells, rows}
 use Rattle.grid_print.specs.Runs.{runs, runs_in}

@@ -1,11 +1,11 @@
 -- The runs of a grid are the longest stretches of neighbouring cells of one row with one style.
 use Rattle.std.proofs.Common.{◌≡◌, ◌↔◌, ℕ, ◌+◌, true, false, [], Option, Some, None, get_or, length, refl, arith, inl, inr}
 use Rattle.std.proofs.lemmas.Bool.{cases_lt}
-use Rattle.cell_runs.specs.Runs.{Run}
-use Rattle.cell_runs.specs.RunsOf.{AreRunsOf}
-use Rattle.cell_runs.specs.Writing.{in_styles}
-use Rattle.cell_runs.proofs.AlikeLemmas.{styles_are_written}
-use Rattle.cell_runs.proofs.RunsOfLemmas.{AreRows, are_runs_of}
+use Rattle.grid_print.specs.CellRuns.{Run}
+use Rattle.grid_print.specs.RunsOf.{AreRunsOf}
+use Rattle.grid_print.specs.Writing.{in_styles}
+use Rattle.grid_print.proofs.AlikeLemmas.{styles_are_written}
+use Rattle.grid_print.proofs.CellRunsOfLemmas.{AreRows, are_runs_of}
 use Rattle.line21_codes.specs.declared.styles.Cell.{Cell}
 use Rattle.line21_codes.specs.declared.styles.Colour.TheVariants.{White}
 use Rattle.line21_screen.specs.Grid.{Grid, in_grid, row_cells}

@@ -17,9 +17,9 @@ use Rattle.line21_codes.specs.declared.channels.Chan.TheVariants.{Cc1, Cc2, Cc3,
 use Rattle.line21_screen.specs.Differences.{grid_differs}
 use Rattle.line21_screen.specs.Grid.{Grid}
 use Rattle.line21_screen.proofs.DifferenceLemmas.{differs-itself as grid_differs-itself}
-use Rattle.window_texts.specs.Differences.{differs as window_differs}
-use Rattle.window_texts.specs.WindowTexts.{service_text, shown_ids}
-use Rattle.window_texts.proofs.DifferenceLemmas.{differs-itself}
+use Rattle.grid_print.specs.Differences.{differs as window_differs}
+use Rattle.grid_print.specs.WindowTexts.{service_text, shown_ids}
+use Rattle.grid_print.proofs.DifferenceLemmas.{differs-itself}
 use Rattle.words_files.specs.Received.{received_grids}
 use Rattle.grid_print.specs.declared.kept.Kept.{Kept}
 use Rattle.grid_print.specs.GridTexts.{all_services, all_text, changed_channel, changed_service, changed_services, changes_text, channels, channels_differ, frame_line, grid_text, screens_differ, service_differs, services_differ, shown_channel, shown_service, shown_services}

@@ -5,8 +5,8 @@ use Rattle.std.proofs.lemmas.List.Concat.{flat_map-append}
 use Rattle.std.proofs.lemmas.List.Elements.{filter_map-append}
 use Rattle.std.specs.List.{cons_option, filter_map, flat_map, range_with_len}
 use Rattle.dtvcc_windows.specs.Showing.{ShownWindow}
-use Rattle.window_texts.specs.WindowTexts.{window_text, with_id}
-use Rattle.cell_runs.proofs.RunLemmas.{range_push}
+use Rattle.grid_print.specs.WindowTexts.{window_text, with_id}
+use Rattle.grid_print.proofs.RunLemmas.{range_push}
 
 -- those below an id
 abbrev pub shown_below : (ℕ → Option ShownWindow) → ℕ → List (ℕ × ShownWindow)

@@ -12,9 +12,9 @@ use Rattle.line21_codes.specs.PenWords.{colour_word, italic_mark, underline_mark
 use Rattle.line21_screen.specs.Differences.{grid_differs}
 use Rattle.line21_screen.specs.Grid.{Grid}
 use Rattle.dtvcc_windows.specs.Showing.{ShownWindow}
-use Rattle.window_texts.specs.Differences.{differs as window_differs}
-use Rattle.window_texts.specs.WindowTexts.{service_text, shown_ids}
-use Rattle.cell_runs.specs.Runs.{Run}
+use Rattle.grid_print.specs.Differences.{differs as window_differs}
+use Rattle.grid_print.specs.WindowTexts.{service_text, shown_ids}
+use Rattle.grid_print.specs.CellRuns.{Run}
 use Rattle.grid_print.specs.Runs.{runs}
 use Rattle.grid_print.specs.Screens.{Screens}
 

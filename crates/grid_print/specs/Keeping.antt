@@ -5,7 +5,7 @@ use Rattle.std.specs.List.{list_any, range_with_len}
 use Rattle.dtvcc_windows.specs.declared.window.Window.{Window}
 use Rattle.dtvcc_windows.specs.Objects.{window_of}
 use Rattle.dtvcc_windows.specs.Showing.{ShownWindow, shown}
-use Rattle.window_texts.specs.Differences.{differs}
+use Rattle.grid_print.specs.Differences.{differs}
 
 -- what is seen of a window, if there is one
 abbrev pub window_seen : Option Window → Option ShownWindow

@@ -6,7 +6,7 @@ use Rattle.dtvcc_windows.specs.Showing.{ShownWindow}
 use Rattle.grid_print.specs.declared.kept.Kept.{Kept}
 use Rattle.grid_print.specs.GridTexts.{service_differs}
 use Rattle.grid_print.specs.Keeping.{windows_seen}
-use Rattle.window_texts.specs.WindowTexts.{service_text}
+use Rattle.grid_print.specs.WindowTexts.{service_text}
 
 -- what was seen of a service's windows
 abbrev pub seen_of : Kept → ℕ → Option ShownWindow

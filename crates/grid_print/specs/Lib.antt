@@ -1,3 +1,10 @@
+pub mod CellRuns
+pub mod RunsOf
+pub mod Writing
+pub mod WindowRuns
+pub mod WindowTexts
+pub mod Differences
+pub mod Examples
 pub mod Runs
 pub mod Screens
 pub mod GridTexts

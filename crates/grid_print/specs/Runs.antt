@@ -1,9 +1,9 @@
 -- Believed in part: the program's answer stands on some of these definitions.
 -- The runs of a grid: by row, then column, the longest stretches of neighbouring cells of one row with one style.
 use Rattle.std.specs.Prelude.{ℕ, List}
-use Rattle.cell_runs.specs.Runs.{Run, row_runs, rows_runs}
-use Rattle.cell_runs.specs.RunsOf.{Places}
-use Rattle.cell_runs.specs.Writing.{in_styles}
+use Rattle.grid_print.specs.CellRuns.{Run, row_runs, rows_runs}
+use Rattle.grid_print.specs.RunsOf.{Places}
+use Rattle.grid_print.specs.Writing.{in_styles}
 use Rattle.line21_codes.specs.declared.styles.Cell.{Cell}
 use Rattle.line21_screen.specs.Grid.{Grid, in_grid, row_cells}
 

@@ -3,14 +3,14 @@ ghost use Rattle.dtvcc_windows.specs.Showing.{ShownWindow};
 ghost use Rattle.dtvcc_services.specs.Numbers.{IsService};
 ghost use Rattle.dtvcc_windows.specs.Objects.{window_of};
 ghost use Rattle.dtvcc_windows.specs.Showing.{shown};
-ghost use Rattle.window_texts.specs.Differences.{differs};
+ghost use Rattle.grid_print.specs.Differences.{differs};
 ghost use Rattle.grid_print.specs.Keeping.{KeepsWindows, windows_seen};
 
+use crate::differs;
 use crate::service::{WINDOWS, seen};
 use cc_receiver::Grids;
 use dtvcc_windows::Window;
 use std::alloc::{AllocError, Global};
-use window_texts::differs;
 
 /// The windows of a service as they were shown last.
 #[derive(Drop)]

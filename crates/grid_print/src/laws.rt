@@ -2,12 +2,12 @@
 
 ghost use Rattle.std.specs.Prelude.{◌≡◌, ◌↔◌, ℕ, None, length, true};
 ghost use Rattle.line21_screen.specs.Grid.{Grid, in_grid};
-ghost use Rattle.cell_runs.specs.RunsOf.{AreRunsOf};
-ghost use Rattle.cell_runs.specs.Writing.{in_styles};
+ghost use Rattle.grid_print.specs.RunsOf.{AreRunsOf};
+ghost use Rattle.grid_print.specs.Writing.{in_styles};
 ghost use Rattle.grid_print.specs.Runs.{places, runs};
 
 /// The runs of a grid are the longest stretches of neighbouring cells of one row with one style, in which they are written alike
-/// (`cell_runs::laws`): each is one, each cell is in one, and they stand by row, then column.
+/// (`crate::cell_laws`): each is one, each cell is in one, and they stand by row, then column.
 pub fn runs_are_the_longest_stretches()
     ensures { (grid : Grid) → AreRunsOf in_styles (places grid) (runs grid) }
 {}

@@ -2,7 +2,7 @@ ghost use Rattle.std.specs.Prelude.{◌≡◌, length};
 ghost use Rattle.line21_screen.specs.Objects.{grid_in};
 ghost use Rattle.grid_print.specs.Runs.{runs};
 
-use cell_runs::runs_of_row;
+use crate::runs_of_row;
 use line21_screen::Memory;
 
 /// The number of runs of a memory's grid.

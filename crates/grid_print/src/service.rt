@@ -5,15 +5,15 @@ ghost use Rattle.dtvcc_services.specs.Numbers.{IsService};
 ghost use Rattle.dtvcc_windows.specs.Objects.{is_live, state_of, window_of};
 ghost use Rattle.dtvcc_windows.specs.Showing.{as_shown, shown};
 ghost use Rattle.text_output.specs.Pages.{Adds, WritesSome, page};
-ghost use Rattle.window_texts.specs.WindowTexts.{service_text, shown_ids, window_text};
+ghost use Rattle.grid_print.specs.WindowTexts.{service_text, shown_ids, window_text};
 ghost use Rattle.grid_print.specs.GridTexts.{shown_service, shown_services};
 
+use crate::write_window;
 use cc_base::Sink;
 use cc_receiver::Grids;
 use dtvcc_services::SERVICES;
 use dtvcc_windows::Window;
 use text_output::Gathered;
-use window_texts::write_window;
 
 /// The windows 0 to 7 of a service (CTA-708-E).
 pub(crate) const WINDOWS: u8 = 8;

@@ -7,7 +7,7 @@ ghost use Rattle.cc_receiver.specs.Receivers.{frame_count};
 ghost use Rattle.line21_screen.specs.Differences.{grid_differs};
 ghost use Rattle.line21_screen.specs.Objects.{grid_in};
 ghost use Rattle.text_output.specs.Pages.{Adds, WritesSome, page};
-ghost use Rattle.window_texts.specs.WindowTexts.{service_text};
+ghost use Rattle.grid_print.specs.WindowTexts.{service_text};
 ghost use Rattle.grid_print.specs.GridTexts.{changed_channel, channels, grid_text};
 ghost use Rattle.dtvcc_services.specs.Numbers.{IsService};
 ghost use Rattle.grid_print.specs.Kept.{KeepsServices, changed_places, seen_at};

@@ -3,13 +3,13 @@ ghost use Rattle.std.specs.List.{flat_map};
 ghost use Rattle.line21_screen.specs.Objects.{grid_in};
 ghost use Rattle.text_output.specs.Pages.{Adds};
 ghost use Rattle.grid_print.specs.GridTexts.{frame_line, grid_text, run_line};
-ghost use Rattle.cell_runs.specs.Runs.{front_text, row_runs};
-ghost use Rattle.cell_runs.specs.Writing.{in_styles};
+ghost use Rattle.grid_print.specs.CellRuns.{front_text, row_runs};
+ghost use Rattle.grid_print.specs.Writing.{in_styles};
 ghost use Rattle.grid_print.specs.Runs.{runs};
 
 use crate::runs::run_count;
+use crate::{begun, write_front};
 use cc_base::Sink;
-use cell_runs::{begun, write_front};
 use itoa::Buffer;
 use line21_codes::{Cell, Chan, italic_mark, underline_mark};
 use line21_screen::Memory;

@@ -10,7 +10,7 @@ use Rattle.command_base.specs.declared.status.Status.TheVariants as status
 use Rattle.cue_list_commands.specs.Reads.{IsProgrammeOf, ReadsProgramme}
 use Rattle.cue_list_commands.specs.SideEnds.{side_ends}
 use Rattle.frame_scheduler.specs.declared.frames.Plan.{Plan}
-use Rattle.programmes.specs.declared.programme.Programme.{Programme}
+use Rattle.frame_carrier.specs.declared.programme.Programme.{Programme}
 use Rattle.insert_commands.specs.InsertAnswer.{HaltsInserting, InsertAnswer, InsertsWhole, OfAcceptedList, SaysInserted, StopsInserting}
 use Rattle.insert_commands.specs.InsertSteps.{HasJudged, halt_status}
 use Rattle.insert_commands.specs.declared.inserting.Halt.{Halt}
@@ -19,8 +19,8 @@ use Rattle.insert_commands.specs.declared.inserting.Inserting.{Inserting}
 use Rattle.cue_lists.specs.Listing.{Listing}
 use Rattle.frame_scheduler.specs.Planned.{Placement}
 use Rattle.cue_list_commands.specs.Output.{list_framing}
-use Rattle.programmes.specs.Framing.{Framing, HasFraming}
-use Rattle.inserted_words.proofs.SoundLemmas.{insertions_sound}
+use Rattle.frame_carrier.specs.Framing.{Framing, HasFraming}
+use Rattle.insert_commands.proofs.SoundLemmas.{insertions_sound}
 use Rattle.frame_scheduler.specs.Frames.{GivesFrom, frames_left}
 use Rattle.services_files.specs.CaptionChannel.{caption_channel}
 use Rattle.words_files.specs.Offences.{IsFileUnder}

@@ -22,10 +22,10 @@ use Rattle.frame_scheduler.specs.Planned.{Placement}
 use Rattle.cue_list_commands.specs.Output.{list_framing}
 use Rattle.packet_inserter.proofs.OneWayLemmas.{inserted_once}
 use Rattle.packet_inserter.specs.Insertion.{IsInserted, packet_length}
-use Rattle.programmes.specs.Framing.{Framing}
-use Rattle.inserted_words.specs.Captions.{captions_of}
-use Rattle.inserted_words.specs.InsertedFile.{AreInserted}
-use Rattle.inserted_words.specs.InsertedFile.AreInserted.{nothing, foreign as copied, caption as replaced}
+use Rattle.frame_carrier.specs.Framing.{Framing}
+use Rattle.insert_commands.specs.Captions.{captions_of}
+use Rattle.insert_commands.specs.InsertedFile.{AreInserted}
+use Rattle.insert_commands.specs.InsertedFile.AreInserted.{nothing, foreign as copied, caption as replaced}
 use Rattle.words_files.proofs.FrontLemmas.{TwoFronts, before_it, behind_it, same, two_fronts}
 use Rattle.words_reading.proofs.KnownLemmas.{known_frames, known_judged, known_no_file, long_front, long_offends, long_passes, malformed_no_file, never_whole, one_malformed, refused_behind, within_passes}
 use Rattle.words_reading.proofs.KnownLemmas.{refused_so as words_refused}

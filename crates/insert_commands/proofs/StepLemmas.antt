@@ -26,22 +26,22 @@ use Rattle.words_reading.specs.Judging.{HasGathered, HasStopped, IsReady}
 use Rattle.words_reading.specs.declared.judge.Stop.TheVariants as stop
 use Rattle.insert_commands.specs.InsertAnswer.{HaltsInserting, SaysInserted}
 use Rattle.insert_commands.specs.InsertSteps.{HasJudged, HasLastFrame, HasReadWords, Replaces}
-use Rattle.inserted_words.specs.InsertedFile.{AreInserted, BringsFrame}
-use Rattle.inserted_words.specs.InsertedFile.AreInserted.{caption, foreign, nothing}
-use Rattle.inserted_words.specs.Soundness.{HaveRate}
-use Rattle.programmes.specs.Framing.{Framing}
-use Rattle.inserted_words.specs.Captions.{captions_of}
+use Rattle.insert_commands.specs.InsertedFile.{AreInserted, BringsFrame}
+use Rattle.insert_commands.specs.InsertedFile.AreInserted.{caption, foreign, nothing}
+use Rattle.insert_commands.specs.Soundness.{HaveRate}
+use Rattle.frame_carrier.specs.Framing.{Framing}
+use Rattle.insert_commands.specs.Captions.{captions_of}
 use Rattle.insert_commands.specs.ListCaptions.{GivesCaptions}
-use Rattle.packet_reading.proofs.EndLemmas.{not_longer}
-use Rattle.packet_reading.proofs.RefusedLemmas.{frames_up_to}
-use Rattle.packet_reading.proofs.WayLemmas.{ends_caption, ends_foreign, read_caption, read_foreign, read_still, spelled_rest}
-use Rattle.packet_reading.proofs.WayLemmas.{may_follow as packets_follow}
-use Rattle.packet_reading.specs.OpenPackets.{EndsCaption, HasRead, MayFollow, ReadsFront, RefusesWord, open_bytes}
+use Rattle.words_reading.proofs.PacketEndLemmas.{not_longer}
+use Rattle.words_reading.proofs.RefusedLemmas.{frames_up_to}
+use Rattle.words_reading.proofs.PacketWayLemmas.{ends_caption, ends_foreign, read_caption, read_foreign, read_still, spelled_rest}
+use Rattle.words_reading.proofs.PacketWayLemmas.{may_follow as packets_follow}
+use Rattle.words_reading.specs.OpenPackets.{EndsCaption, HasRead, MayFollow, ReadsFront, RefusesWord, open_bytes}
 use Rattle.frame_scheduler.specs.declared.frames.Plan.{Plan}
 use Rattle.insert_commands.specs.declared.captions.Captions.{Captions}
 use Rattle.insert_commands.specs.declared.inserting.Halt.{Halt}
 use Rattle.insert_commands.specs.declared.inserting.Inserting.{Inserting}
-use Rattle.packet_reading.specs.declared.packets.Packets.{Packets}
+use Rattle.words_reading.specs.declared.packets.Packets.{Packets}
 
 -- a rate is told by its code
 pub same_rate : (r s : Rate) → rate_code r ≡ rate_code s → r ≡ s

@@ -24,11 +24,11 @@ use Rattle.packet_inserter.specs.Insertion.{IsInserted, packet_length}
 use Rattle.words_files.specs.FramesOf.{AreFramesOf}
 use Rattle.words_files.specs.Offences.{IsFileUnder, IsUnoffending}
 use Rattle.services_files.specs.CaptionChannel.{caption_channel}
-use Rattle.inserted_words.specs.InsertedFile.{AreInserted, BringsFrame}
+use Rattle.insert_commands.specs.InsertedFile.{AreInserted, BringsFrame}
 use Rattle.cue_list_commands.specs.Output.{list_framing}
-use Rattle.programmes.specs.Framing.{Framing}
-use Rattle.inserted_words.specs.Captions.{captions_of}
-use Rattle.inserted_words.specs.Soundness.{HaveRate, IsSoundInsertion}
+use Rattle.frame_carrier.specs.Framing.{Framing}
+use Rattle.insert_commands.specs.Captions.{captions_of}
+use Rattle.insert_commands.specs.Soundness.{HaveRate, IsSoundInsertion}
 use Rattle.words_reading.specs.Causes.{Cause, HasEnough, HasNoOffence, IsAnyhow, IsRefusedWith, IsShort, PassesLimit}
 use Rattle.words_reading.specs.Judging.{SaysFront}
 use Rattle.words_reading.specs.Reading.{Stops}

@@ -14,11 +14,11 @@ use Rattle.words_files.specs.FramesOf.{AreFramesOf}
 use Rattle.words_files.specs.Offences.{IsUnoffending}
 use Rattle.services_files.specs.CaptionChannel.{caption_channel}
 use Rattle.words_files.specs.CarriedWords.{carried_words}
-use Rattle.programmes.specs.Framing.{Framing}
-use Rattle.inserted_words.specs.Captions.{captions_of}
+use Rattle.frame_carrier.specs.Framing.{Framing}
+use Rattle.insert_commands.specs.Captions.{captions_of}
 use Rattle.insert_commands.specs.InsertAnswer.{IsHalt, SaysInserted}
 use Rattle.insert_commands.specs.ListCaptions.{GivesCaptions}
-use Rattle.packet_reading.specs.OpenPackets.{HasRead, HasReadPackets, open_bytes}
+use Rattle.words_reading.specs.OpenPackets.{HasRead, HasReadPackets, open_bytes}
 use Rattle.frame_scheduler.specs.declared.frames.Plan.{Plan}
 use Rattle.insert_commands.specs.declared.captions.Captions.{Captions}
 use Rattle.insert_commands.specs.declared.inserting.Halt.{Halt}

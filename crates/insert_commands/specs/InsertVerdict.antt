@@ -16,10 +16,10 @@ use Rattle.cue_list_commands.specs.SideLists.{IsSideOf}
 use Rattle.cue_lists.specs.Listing.{Listing}
 use Rattle.frame_scheduler.specs.Planned.{Placement}
 use Rattle.cue_list_commands.specs.Output.{list_framing}
-use Rattle.inserted_words.specs.Captions.{captions_of}
-use Rattle.inserted_words.specs.Soundness.{HaveRate}
+use Rattle.insert_commands.specs.Captions.{captions_of}
+use Rattle.insert_commands.specs.Soundness.{HaveRate}
 use Rattle.packet_inserter.specs.Insertion.{IsInserted, packet_length}
-use Rattle.programmes.specs.Framing.{Framing}
+use Rattle.frame_carrier.specs.Framing.{Framing}
 use Rattle.words_files.specs.FramesOf.{AreFramesOf}
 use Rattle.words_files.specs.Offences.{IsFileUnder, IsMalformed}
 use Rattle.words_reading.specs.Answers.{IsPastLimit}

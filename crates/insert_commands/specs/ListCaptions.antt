@@ -6,8 +6,8 @@ use Rattle.frame_scheduler.specs.Columns.{Columns}
 use Rattle.frame_scheduler.specs.Frames.{GivesFrom, frames_left}
 use Rattle.frame_scheduler.specs.declared.frames.FrameBytes.{FrameBytes}
 use Rattle.frame_scheduler.specs.declared.frames.Plan.{Plan}
-use Rattle.programmes.specs.Framing.{Framing}
-use Rattle.inserted_words.specs.Captions.{padded}
+use Rattle.frame_carrier.specs.Framing.{Framing}
+use Rattle.insert_commands.specs.Captions.{padded}
 use Rattle.insert_commands.specs.declared.captions.Captions.{Captions}
 
 -- these are the bytes of this frame, and those that are left give the frames behind it

@@ -1,14 +1,13 @@
 ghost use Rattle.std.specs.Prelude.{◌≡◌, ◌<◌, ◌≤◌, ◌+◌, ℕ, All, MatchBool, length};
-ghost use Rattle.programmes.specs.Framing.{Framing, HasFraming};
-ghost use Rattle.inserted_words.specs.Captions.{captions_of, padded};
+ghost use Rattle.frame_carrier.specs.Framing.{Framing, HasFraming};
+ghost use Rattle.insert_commands.specs.Captions.{captions_of, padded};
 ghost use Rattle.insert_commands.specs.ListCaptions.{GivesFramed, GivesPlanned};
 
 use arrayvec::ArrayVec;
 use cc_base::Rate;
 use cc_data::Triplet;
-use frame_carrier::Carrier;
+use frame_carrier::{Carrier, Programme};
 use frame_scheduler::{FrameBytes, Frames};
-use programmes::Programme;
 
 /// The captions of a programme, frame by frame.
 #[derive(Drop)]

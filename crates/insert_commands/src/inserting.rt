@@ -5,7 +5,7 @@ ghost use Rattle.cdp_packets.specs.Sections.{AreSections};
 ghost use Rattle.words_files.specs.FramesOf.{AreFramesOf};
 ghost use Rattle.services_files.specs.CaptionChannel.{caption_channel};
 ghost use Rattle.frame_scheduler.specs.Frames.{GivesFrom, frames_left};
-ghost use Rattle.programmes.specs.Framing.{Framing, HasFraming};
+ghost use Rattle.frame_carrier.specs.Framing.{Framing, HasFraming};
 ghost use Rattle.insert_commands.specs.InsertAnswer.{HaltsInserting, SaysInserted};
 ghost use Rattle.insert_commands.specs.InsertSteps.{HasJudged, HasLastFrame, HasReadWords, Replaces, halt_status};
 ghost use Rattle.insert_commands.specs.ListCaptions.{GivesCaptions};
@@ -18,13 +18,12 @@ use cc_receiver::{Ended, Receiver};
 use cdp_packets::WholePacket;
 use command_base::Status;
 use findings::{Finding, Kind45};
+use frame_carrier::Programme;
 use frame_scheduler::Plan;
 use packet_inserter::insert;
-use packet_reading::Packets;
-use programmes::Programme;
 use std::alloc::{AllocError, Global};
 use text_output::Gathered;
-use words_reading::{Judge, Reason, Stop};
+use words_reading::{Judge, Packets, Reason, Stop};
 
 /// Why an insertion stops at a frame.
 #[derive(Clone, Copy, Debug, PartialEq, Eq)]

@@ -34,14 +34,14 @@ use Rattle.line21_author.specs.declared.event.Event.{Event}
 use Rattle.line21_author.specs.declared.unit.Unit.{Unit}
 use Rattle.line21_author.proofs.CueSlotLemmas.{cues_formed_in_slots}
 use Rattle.line21_author.proofs.CueCodesLemmas.{cue_codes_writable}
-use Rattle.field_lanes.specs.declared.chunk.FieldChunk.{FieldChunk}
-use Rattle.field_lanes.specs.ChannelLane.{IsChannelPlaced, channel_chunks, channel_slot, field_cue_chunks, channel_chunks_from}
-use Rattle.field_lanes.specs.LaneEvents.{event_at}
-use Rattle.field_lanes.specs.LaneTimeline.{lane_timeline, stands}
+use Rattle.lanes.specs.declared.chunk.FieldChunk.{FieldChunk}
+use Rattle.lanes.specs.ChannelLane.{IsChannelPlaced, channel_chunks, channel_slot, field_cue_chunks, channel_chunks_from}
+use Rattle.lanes.specs.LaneEvents.{event_at}
+use Rattle.lanes.specs.LaneTimeline.{lane_timeline, stands}
 use Rattle.frame_scheduler.specs.Planned.{channel_pair}
 use Rattle.frame_scheduler.specs.SlotLists.{slot_cues}
-use Rattle.field_lanes.specs.Timeline.{Timeline, repeat_at, repeat_of, slot}
-use Rattle.field_lanes.proofs.DoublingLemmas.{at_event, at_unit, lane_marked, lane_spaced, over_cases}
+use Rattle.lanes.specs.Timeline.{Timeline, repeat_at, repeat_of, slot}
+use Rattle.lanes.proofs.DoublingLemmas.{at_event, at_unit, lane_marked, lane_spaced, over_cases}
 use Rattle.frame_scheduler.proofs.EventsApartLemmas.{events_apart}
 use Rattle.frame_scheduler.proofs.ListDoublingLemmas.{channel_controls, channel_timeline}
 use Rattle.frame_scheduler.proofs.SlotLemmas.{slot_cues_formed}

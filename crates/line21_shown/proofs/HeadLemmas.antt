@@ -18,13 +18,13 @@ use Rattle.line21_author.specs.declared.event.Event.{Event}
 use Rattle.line21_author.specs.declared.unit.Unit.{Unit}
 use Rattle.line21_author.proofs.CueCodesLemmas.{cue_codes_writable}
 use Rattle.line21_author.proofs.SlotSequenceLemmas.{AreInSlots, IsSoundInSlots}
-use Rattle.field_lanes.specs.declared.chunk.FieldChunk.{FieldChunk}
-use Rattle.field_lanes.specs.ChannelLane.{field_cue_chunks}
+use Rattle.lanes.specs.declared.chunk.FieldChunk.{FieldChunk}
+use Rattle.lanes.specs.ChannelLane.{field_cue_chunks}
 use Rattle.cue_lists.specs.Rules.Sentences.{AreInSequence}
-use Rattle.field_lanes.specs.LaneEvents.{IsFree, event_at}
-use Rattle.field_lanes.specs.LaneTimeline.{stands}
+use Rattle.lanes.specs.LaneEvents.{IsFree, event_at}
+use Rattle.lanes.specs.LaneTimeline.{stands}
 use Rattle.cue_lists.specs.Rules.Sentences.{IsSound}
-use Rattle.field_lanes.specs.Timeline.{Timeline, over}
+use Rattle.lanes.specs.Timeline.{Timeline, over}
 use Rattle.line21_shown.proofs.LoadingLemmas.{erases, chunk_code, chunk_codes}
 use Rattle.line21_shown.proofs.SuffixLemmas.{AreChunks, ArePlacedFrom, LoadFrom, cue_loads, cue_until, events_behind, loads_from, parts, placed_behind, raised, stands_high, stands_low, stands_parts}
 

@@ -14,8 +14,8 @@ use Rattle.line21_author.specs.FirstChannel.{first_channel}
 use Rattle.line21_author.specs.RunCodes.{run_codes}
 use Rattle.line21_author.specs.declared.event.Event.{Event}
 use Rattle.line21_author.specs.declared.unit.Unit.{Unit}
-use Rattle.field_lanes.specs.declared.chunk.FieldChunk.{FieldChunk}
-use Rattle.field_lanes.specs.ChannelLane.{field_cue_chunks}
+use Rattle.lanes.specs.declared.chunk.FieldChunk.{FieldChunk}
+use Rattle.lanes.specs.ChannelLane.{field_cue_chunks}
 use Rattle.line21_shown.proofs.SuffixLemmas.{AreChunks, ArePlacedFrom}
 
 -- a unit has a slot within its time

@@ -13,9 +13,9 @@ use Rattle.line21_author.specs.FirstChannel.{first_channel}
 use Rattle.line21_author.specs.declared.unit.Unit.{Unit}
 use Rattle.line21_screen.specs.Channels.{ChannelState}
 use Rattle.line21_screen.specs.Grid.{Grid, empty_grid}
-use Rattle.field_lanes.specs.declared.chunk.FieldChunk.{FieldChunk}
-use Rattle.field_lanes.specs.LaneTimeline.{stands}
-use Rattle.field_lanes.specs.Timeline.{Timeline, over}
+use Rattle.lanes.specs.declared.chunk.FieldChunk.{FieldChunk}
+use Rattle.lanes.specs.LaneTimeline.{stands}
+use Rattle.lanes.specs.Timeline.{Timeline, over}
 use Rattle.line21_shown.specs.Doing.{does, does_all}
 use Rattle.line21_shown.specs.Reading.{does_unit, acts}
 use Rattle.line21_shown.proofs.BlindLemmas.{AreBlind, showing}

@@ -22,13 +22,13 @@ use Rattle.line21_author.specs.CueCodes.{cue_codes}
 use Rattle.line21_author.specs.CueEvents.{cue_events}
 use Rattle.line21_screen.specs.Channels.{ChannelState}
 use Rattle.line21_screen.specs.Grid.{Grid, empty_grid}
-use Rattle.field_lanes.specs.declared.chunk.FieldChunk.{FieldChunk}
+use Rattle.lanes.specs.declared.chunk.FieldChunk.{FieldChunk}
 use Rattle.cue_lists.specs.Rules.Sentences.{AreInSequence, IsContinued}
-use Rattle.field_lanes.specs.LaneEvents.{event_at}
-use Rattle.field_lanes.specs.LaneTimeline.{stands}
+use Rattle.lanes.specs.LaneEvents.{event_at}
+use Rattle.lanes.specs.LaneTimeline.{stands}
 use Rattle.cue_lists.specs.Rules.Sentences.{IsSound}
-use Rattle.field_lanes.specs.Timeline.{Timeline}
-use Rattle.field_lanes.proofs.EventLemmas.{event_none}
+use Rattle.lanes.specs.Timeline.{Timeline}
+use Rattle.lanes.proofs.EventLemmas.{event_none}
 use Rattle.line21_shown.specs.Doing.{does_all}
 use Rattle.line21_shown.specs.Reading.{acts}
 use Rattle.line21_shown.specs.Writing.{with_runs}

@@ -24,11 +24,11 @@ use Rattle.line21_author.proofs.CueEventsLemmas.{events_of_apart}
 use Rattle.line21_screen.specs.Channels.{ChannelState}
 use Rattle.line21_screen.specs.Grid.{Grid}
 use Rattle.cue_lists.specs.Rules.Sentences.{AreInSequence}
-use Rattle.field_lanes.specs.LaneEvents.{IsFree, event_at}
-use Rattle.field_lanes.specs.LaneTimeline.{stands}
+use Rattle.lanes.specs.LaneEvents.{IsFree, event_at}
+use Rattle.lanes.specs.LaneTimeline.{stands}
 use Rattle.cue_lists.specs.Rules.Sentences.{IsSound}
-use Rattle.field_lanes.specs.Timeline.{Timeline}
-use Rattle.field_lanes.proofs.DoublingLemmas.{free_none}
+use Rattle.lanes.specs.Timeline.{Timeline}
+use Rattle.lanes.proofs.DoublingLemmas.{free_none}
 use Rattle.line21_shown.specs.Doing.{does_all}
 use Rattle.line21_shown.specs.Reading.{does_unit, acts}
 use Rattle.line21_shown.proofs.BlindLemmas.{AreBlind, showing, pop_blind}

@@ -16,8 +16,8 @@ use Rattle.line21_screen.specs.Channels.{ChannelState}
 use Rattle.line21_screen.specs.Fields.{after_code}
 use Rattle.line21_screen.specs.Meaning.{after}
 use Rattle.line21_screen.proofs.MeaningLemmas.{after-none, after-acts, after-ignored}
-use Rattle.field_lanes.specs.Timeline.{Timeline, repeat_at, repeat_of, slot}
-use Rattle.field_lanes.proofs.ColumnLemmas.{null_plain}
+use Rattle.lanes.specs.Timeline.{Timeline, repeat_at, repeat_of, slot}
+use Rattle.lanes.proofs.ColumnLemmas.{null_plain}
 use Rattle.line21_shown.specs.Doing.{does}
 use Rattle.line21_shown.specs.Reading.{ColumnsAreRead, FieldsAreRead, IsCaptioned, IsForFirst, IsMarked, acts, after_unit, does_unit, field_acts, first_alone, pairs_before}
 

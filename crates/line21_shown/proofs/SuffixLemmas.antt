@@ -17,16 +17,16 @@ use Rattle.line21_author.specs.EventOrder.{AreApart, AreFrom}
 use Rattle.line21_author.specs.FirstChannel.{first_channel}
 use Rattle.line21_author.specs.declared.event.Event.{Event}
 use Rattle.line21_author.specs.declared.unit.Unit.{Unit}
-use Rattle.field_lanes.specs.declared.chunk.FieldChunk.{FieldChunk}
-use Rattle.field_lanes.specs.ChannelLane.{field_cue_chunks, channel_chunks_from}
+use Rattle.lanes.specs.declared.chunk.FieldChunk.{FieldChunk}
+use Rattle.lanes.specs.ChannelLane.{field_cue_chunks, channel_chunks_from}
 use Rattle.cue_lists.specs.Rules.Sentences.{AreInSequence}
-use Rattle.field_lanes.specs.FieldLane.{end_of, field_lane}
-use Rattle.field_lanes.specs.LaneEvents.{IsFree, event_at}
-use Rattle.field_lanes.specs.LaneTimeline.{stands}
-use Rattle.placements.specs.Placing.{IsPlaced}
-use Rattle.field_lanes.proofs.DoublingLemmas.{free_none}
-use Rattle.field_lanes.proofs.FieldLaneLemmas.{end_push}
-use Rattle.field_lanes.proofs.EventLemmas.{event_none, from_earlier, some_slot}
+use Rattle.lanes.specs.FieldLane.{end_of, field_lane}
+use Rattle.lanes.specs.LaneEvents.{IsFree, event_at}
+use Rattle.lanes.specs.LaneTimeline.{stands}
+use Rattle.lanes.specs.Placing.{IsPlaced}
+use Rattle.lanes.proofs.DoublingLemmas.{free_none}
+use Rattle.lanes.proofs.FieldLaneLemmas.{end_push}
+use Rattle.lanes.proofs.EventLemmas.{event_none, from_earlier, some_slot}
 use Rattle.line21_shown.proofs.LoadingLemmas.{StandBeside, erases}
 
 -- the chunks are the units of the cues, in their order

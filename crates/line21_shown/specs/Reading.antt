@@ -13,7 +13,7 @@ use Rattle.line21_author.specs.declared.unit.Unit.{Unit}
 use Rattle.line21_screen.specs.Channels.{ChannelState, new_channel}
 use Rattle.line21_screen.specs.Fields.{FieldState, after_code, new_field}
 use Rattle.line21_screen.specs.Meaning.{after}
-use Rattle.field_lanes.specs.Timeline.{Timeline, repeat_of, slot}
+use Rattle.lanes.specs.Timeline.{Timeline, repeat_of, slot}
 use Rattle.line21_shown.specs.Doing.{does}
 
 -- the pairs of the frames below n, the newest first

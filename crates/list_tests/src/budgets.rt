@@ -1,4 +1,4 @@
-use buffer_bound::Budget;
+use lanes::Budget;
 use std::test::Fail;
 
 // One piece: its bytes, whether they are granted, what is left behind it, and what is held then.

@@ -1,5 +1,5 @@
 use cue_lists::{check, parse};
-use field_clashes::{Clash, field_clash};
+use dual_plans::{Clash, field_clash};
 use std::test::Fail;
 
 // A list that keeps the rules.

@@ -1,5 +1,5 @@
-use field_lanes::cursor::Cursor;
-use field_lanes::{FieldChunk, FieldLane, PlacedField, PlacedUnit};
+use lanes::field_cursor::Cursor;
+use lanes::{FieldChunk, FieldLane, PlacedField, PlacedUnit};
 use line21_author::Event;
 use std::mem::size_of;
 use std::test::Fail;

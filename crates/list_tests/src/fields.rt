@@ -1,9 +1,8 @@
 ghost use Rattle.std.specs.Prelude.{◌≡◌, ◌+◌, ◌^◌, ◌<◌, length};
 
-use field_lanes::{FieldChunk, FieldLane, PlacedField};
+use lanes::{FieldChunk, FieldLane, PlacedField, PlanFault};
 use line21_author::{Event, Unit};
 use line21_codes::Pair;
-use placements::PlanFault;
 use std::process::Abort;
 use std::test::Fail;
 

@@ -1,7 +1,7 @@
 use arrayvec::ArrayVec;
+use frame_carrier::{Overlaid, Overlay};
 use frame_scheduler::{FrameBytes, Frames};
 use line21_codes::Pair;
-use programmes::{Overlaid, Overlay};
 use std::test::Fail;
 
 const NULL: Pair = Pair { a: 0x80, b: 0x80 };

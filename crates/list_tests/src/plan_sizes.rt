@@ -1,8 +1,7 @@
 use cc_base::Rate;
 use cue_lists::{check, parse};
-use field_lanes::PlacedField;
 use frame_scheduler::{Frames, Plan, placed_services, plan};
-use service_lanes::PlacedService;
+use lanes::{PlacedField, PlacedService};
 use std::mem::size_of;
 use std::test::Fail;
 

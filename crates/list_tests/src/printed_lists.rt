@@ -2,8 +2,7 @@
 
 ghost use Rattle.std.specs.Prelude.{◌≤◌, length};
 
-use cue_form::parse;
-use cue_print::print;
+use cue_form::{parse, print};
 use cue_types::{CueList, Kind, Pen, WinCue};
 use std::alloc::Global;
 use std::test::Fail;

@@ -1,6 +1,6 @@
 use cc_base::Why;
 use csv::{ByteRecord, ReaderBuilder};
-use record_files::{Offence, count_place, field, is_word, out_of_form, read_number, read_within};
+use cue_form::{Offence, count_place, field, is_word, out_of_form, read_number, read_within};
 use std::process::Abort;
 
 // A number is 1 to 10 decimal digits without a sign and without a leading zero, except 0 itself.

@@ -1,8 +1,7 @@
-use field_lanes::FieldChunk;
+use dual_fields::{Part, Place, SlotUse, first_place, place_all, table, table_beside};
+use lanes::{FieldChunk, PlanFault};
 use line21_author::{Event, Unit};
 use line21_codes::Pair;
-use placements::PlanFault;
-use resumed_lanes::{Part, Place, SlotUse, first_place, place_all, table, table_beside};
 use std::alloc::Global;
 use std::test::Fail;
 

@@ -3,8 +3,7 @@ ghost use Rattle.cue_lists.specs.Rules.{IsRuled};
 
 use cue_lists::{CueList, check, parse};
 use dtvcc_author::captions;
-use placements::PlanFault;
-use service_lanes::{PlacedService, ServiceLane, service_chunks};
+use lanes::{PlacedService, PlanFault, ServiceLane, service_chunks};
 use std::alloc::Global;
 use std::test::Fail;
 

@@ -1,5 +1,5 @@
 use cc_base::{ReaderSource, Source, Took};
-use side_files::SideFile;
+use command_base::SideFile;
 
 #[test]
 fn a_missing_file_fails_and_no_file_is_empty(rt: HostRuntime) {

@@ -1,17 +1,17 @@
 ghost use Rattle.std.specs.Prelude.{◌≡◌, IfOk};
-ghost use Rattle.field_lanes.specs.FieldPlan.{field_chunk_cue};
+ghost use Rattle.lanes.specs.FieldPlan.{field_chunk_cue};
 ghost use Rattle.line21_author.specs.EventOrder.{AreApart};
-ghost use Rattle.placements.specs.LaneRoom.{AreInCueOrder};
+ghost use Rattle.lanes.specs.LaneRoom.{AreInCueOrder};
 
 use cc_base::Rate;
 use cue_lists::parse;
-use field_lanes::{FieldChunk, FieldLane, PlacedField, PlacedUnit};
+use dual_fields::Place;
+use dual_plans::{Dual, SecondLanes, channel_parts, dual, units_in};
 use frame_scheduler::{Frames, Plan};
+use lanes::{FieldChunk, FieldLane, PlacedField, PlacedUnit};
 use line21_author::{Event, Unit};
 use line21_codes::{Chan, Pair};
 use line21_slots::Cadence;
-use resumed_lanes::Place;
-use shared_field::{Dual, SecondLanes, channel_parts, dual, units_in};
 use std::alloc::Global;
 use std::test::Fail;
 

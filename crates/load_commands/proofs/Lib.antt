@@ -1,3 +1,13 @@
+pub mod LetterLemmas
+pub mod FormedLemmas
+pub mod RuledLemmas
+pub mod WrittenLemmas
+pub mod SlotRoomLemmas
+pub mod FrameRoomLemmas
+pub mod UnitCountLemmas
+pub mod ChannelRoomLemmas
+pub mod ServiceRoomLemmas
+pub mod LoadRoomLemmas
 pub mod CountLemmas
 pub mod WholeLemmas
 pub mod TakingLemmas

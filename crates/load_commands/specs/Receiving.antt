@@ -5,7 +5,7 @@ use Rattle.cc_base.specs.declared.rate.Rate.{Rate}
 use Rattle.cc_receiver.specs.Receivers.{HasReceived, frame_count}
 use Rattle.cc_receiver.specs.declared.receiver.Receiver.{Receiver}
 use Rattle.frame_scheduler.specs.declared.frames.Plan.{Plan}
-use Rattle.programmes.specs.declared.programme.Programme.{Programme}
+use Rattle.frame_carrier.specs.declared.programme.Programme.{Programme}
 use Rattle.frame_carrier.specs.Carrying.{IsAt, column_bytes, column_packets, packets_before}
 use Rattle.frame_scheduler.specs.Columns.{Columns}
 use Rattle.frame_scheduler.specs.Frames.{GivesFrom, frames_left}

@@ -2,15 +2,15 @@ ghost use Rattle.std.specs.Prelude.{◌≤◌, ℕ, List, Option, IfOk};
 ghost use Rattle.command_base.specs.Ends.{ends};
 ghost use Rattle.load_commands.specs.LoadAnswer.{LoadAnswer};
 ghost use Rattle.load_commands.specs.LoadOutput.{IsSummaryOf};
-ghost use Rattle.load_lists.specs.LoadList.{most_load};
+ghost use Rattle.load_commands.specs.LoadList.{most_load};
 
+use crate::load_list;
 use crate::reception::receive;
 use crate::summary::Summary;
 use cc_base::{Put, Sink, SteadySource};
 use command_base::Status;
 use cue_list_commands::read_programme;
 use cue_lists::print;
-use load_lists::load_list;
 use std::alloc::{AllocError, Global};
 
 /// Makes the list of so many captions, 1 to 10,000, writes it, reads it as any other list, plans it, carries each of its frames,

@@ -8,10 +8,9 @@ ghost use Rattle.load_commands.specs.Receiving.{AreAllWhole, AreWhole, HasReceiv
 use arrayvec::ArrayVec;
 use cc_base::Rate;
 use cc_receiver::Receiver;
-use frame_carrier::Carrier;
+use frame_carrier::{Carrier, Programme};
 use frame_scheduler::{FrameBytes, Frames, Plan};
 use grid_print::Shown;
-use programmes::Programme;
 use std::alloc::{AllocError, Global};
 
 /// A programme on its way into a receiver, frame by frame.

@@ -9,13 +9,13 @@ use Rattle.time_codes.proofs.TextLemmas.{ones_digit, tens_digit}
 use Rattle.time_codes.specs.declared.counting.Counting.{Counting}
 use Rattle.time_codes.specs.declared.time_code.TimeCode.{TimeCode}
 use Rattle.scc_files.specs.Lines.{IsLineEnd}
-use Rattle.mcc_payloads.specs.Payloads.{IsPayload, Payload, checksum_byte, payload_bytes}
-use Rattle.mcc_payloads.specs.Reading.{Open, nothing_open}
-use Rattle.mcc_payloads.specs.Readers.{IsBehindPayload, open_of}
-use Rattle.mcc_payloads.proofs.PacketLemmas.{packet_whole}
-use Rattle.mcc_payloads.proofs.ReadLemmas.{under_leads}
-use Rattle.mcc_payloads.proofs.StepLemmas.{at_bytes, leads}
-use Rattle.mcc_payloads.proofs.WriteLemmas.{all_left, one_first}
+use Rattle.mcc_files.specs.Payloads.{IsPayload, Payload, checksum_byte, payload_bytes}
+use Rattle.mcc_files.specs.PayloadReading.{Open, nothing_open}
+use Rattle.mcc_files.specs.PayloadReaders.{IsBehindPayload, open_of}
+use Rattle.mcc_files.proofs.PacketLemmas.{packet_whole}
+use Rattle.mcc_files.proofs.ReadLemmas.{under_leads}
+use Rattle.mcc_files.proofs.StepLemmas.{at_bytes, leads}
+use Rattle.mcc_files.proofs.WriteLemmas.{all_left, one_first}
 use Rattle.mcc_files.specs.Lines.{HaveNoLf}
 use Rattle.mcc_files.specs.MccFiles.{TimedPackets}
 use Rattle.mcc_files.specs.Reading.{State, in_phase, judged_frame, payload_begins, payload_in, run, started}

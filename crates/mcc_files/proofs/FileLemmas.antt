@@ -5,8 +5,8 @@ use Rattle.time_codes.specs.declared.counting.Counting.{Counting}
 use Rattle.mcc_files.specs.Lines.{AreMccLines, IsAttribute, IsMccLine, IsPacketLine, IsRate, IsReadPast, Line, Version, attribute, format_text, nothing, one, packet, rate, rate_name, two}
 use Rattle.mcc_files.specs.MccFiles.{IsMccFile, SayCounted, SayPackets, TimedPackets}
 use Rattle.mcc_files.specs.Writing.{AreWritable, AreWrittenLines, IsWrittenFile, time_text, written_attributes, written_head, written_version}
-use Rattle.mcc_payloads.specs.Payloads.{IsPayload, Payload}
-use Rattle.mcc_payloads.proofs.WrittenLemmas.{written_is_payload}
+use Rattle.mcc_files.specs.Payloads.{IsPayload, Payload}
+use Rattle.mcc_files.proofs.WrittenLemmas.{written_is_payload}
 use Rattle.mcc_files.proofs.TimeLemmas.{colon_time, frame_again, two_digits}
 
 -- what the lines of packets say, and the empty one behind them

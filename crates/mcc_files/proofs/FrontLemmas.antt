@@ -15,12 +15,12 @@ use Rattle.cc_base.specs.declared.why.Why.{Why}
 use Rattle.cc_base.specs.declared.why.Why.TheVariants as why
 use Rattle.scc_files.specs.Lines.{AreBlanks, AreSpaces}
 use Rattle.scc_files.specs.Phases.{is_blank}
-use Rattle.mcc_payloads.specs.Payloads.{IsPayload, Payload, bytes_with, payload_bytes}
-use Rattle.mcc_payloads.specs.Reading.{Open, is_whole, step}
-use Rattle.mcc_payloads.specs.declared.reader.Offence.{Offence}
-use Rattle.mcc_payloads.proofs.FirstLemmas.{Stands, at_digit, at_item, stands_on}
-use Rattle.mcc_payloads.proofs.SoundLemmas.{packet_so, step_so}
-use Rattle.mcc_payloads.proofs.StepLemmas.{joined_is}
+use Rattle.mcc_files.specs.Payloads.{IsPayload, Payload, bytes_with, payload_bytes}
+use Rattle.mcc_files.specs.PayloadReading.{Open, is_whole, step}
+use Rattle.mcc_files.specs.declared.payload_reader.Offence.{Offence}
+use Rattle.mcc_files.proofs.FirstLemmas.{Stands, at_digit, at_item, stands_on}
+use Rattle.mcc_files.proofs.SoundLemmas.{packet_so, step_so}
+use Rattle.mcc_files.proofs.StepLemmas.{joined_is}
 use Rattle.mcc_files.specs.Lines.{AreDecimals, AreWithinLine, IsAttribute, IsComment, IsName, IsRate, IsReadPast, is_letter, rate_name}
 use Rattle.mcc_files.specs.Phases.{matched, rate_bytes, rate_count, rate_moved, whole_moved}
 use Rattle.mcc_files.specs.Reading.{State, begins_time, begun, in_phase, judged_frame, named, not_before, payload_begins, payload_goes, rate_read, taken, timed, within}

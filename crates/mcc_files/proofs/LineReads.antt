@@ -8,7 +8,7 @@ use Rattle.time_codes.specs.declared.counting.Counting.{Counting}
 use Rattle.time_codes.specs.declared.counting.Counting.TheVariants as counting
 use Rattle.scc_files.specs.Lines.{AreBlanks, AreSpaces}
 use Rattle.scc_files.specs.Phases.{is_blank}
-use Rattle.mcc_payloads.specs.declared.reader.Offence.{Offence}
+use Rattle.mcc_files.specs.declared.payload_reader.Offence.{Offence}
 use Rattle.mcc_files.specs.Lines.{AreLettersAndSpaces, AreWithinLine, IsAttribute, IsComment, IsName, IsRate, is_letter, rate_name}
 use Rattle.mcc_files.specs.Phases.{matched}
 use Rattle.mcc_files.specs.Reading.{State, begun, ends, in_phase, run, started, take_byte, then_run, within}

@@ -8,9 +8,9 @@ use Rattle.time_codes.specs.Countings.{counting_text}
 use Rattle.time_codes.proofs.TextLemmas.{both}
 use Rattle.time_codes.specs.declared.counting.Counting.{Counting}
 use Rattle.scc_files.specs.Lines.{AreBlanks, IsLineEnd}
-use Rattle.mcc_payloads.specs.Payloads.{Payload, payload_bytes}
-use Rattle.mcc_payloads.specs.Reading.{is_whole}
-use Rattle.mcc_payloads.specs.declared.reader.Offence.{Offence}
+use Rattle.mcc_files.specs.Payloads.{Payload, payload_bytes}
+use Rattle.mcc_files.specs.PayloadReading.{is_whole}
+use Rattle.mcc_files.specs.declared.payload_reader.Offence.{Offence}
 use Rattle.mcc_files.specs.Lines.{AreMccLines, IsMccForm, IsMccLine, Line, Version, attribute, format_text, nothing, one, packet, rate, rate_name, two}
 use Rattle.mcc_files.specs.MccFiles.{IsMccFile, TimedPackets}
 use Rattle.mcc_files.specs.Phases.{rate_bytes, rate_count}

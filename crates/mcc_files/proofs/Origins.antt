@@ -5,9 +5,9 @@ use Rattle.time_codes.specs.Texts.{IsTimeText}
 use Rattle.time_codes.specs.declared.counting.Counting.{Counting}
 use Rattle.time_codes.specs.declared.time_code.TimeCode.{TimeCode}
 use Rattle.scc_files.specs.Lines.{AreBlanks, AreSpaces, IsLineEnd}
-use Rattle.mcc_payloads.specs.Payloads.{IsPayload, Payload, payload_bytes}
-use Rattle.mcc_payloads.specs.Reading.{Open}
-use Rattle.mcc_payloads.proofs.FirstLemmas.{Stands}
+use Rattle.mcc_files.specs.Payloads.{IsPayload, Payload, payload_bytes}
+use Rattle.mcc_files.specs.PayloadReading.{Open}
+use Rattle.mcc_files.proofs.FirstLemmas.{Stands}
 use Rattle.mcc_files.specs.Lines.{AreDecimals, IsAttribute, IsComment, IsMccForm, IsMccLine, IsName, IsRate, IsReadPast, Line, Version, format_text, one, rate_name, two}
 use Rattle.mcc_files.specs.Phases.{rate_bytes, rate_count}
 use Rattle.mcc_files.specs.Reading.{State, begins_time, payload_in, started}

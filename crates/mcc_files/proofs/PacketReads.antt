@@ -8,13 +8,13 @@ use Rattle.time_codes.proofs.TextLemmas.{both, ones_digit, spelled_is_read, tens
 use Rattle.time_codes.specs.declared.counting.Counting.{Counting}
 use Rattle.time_codes.specs.declared.time_code.TimeCode.{TimeCode}
 use Rattle.scc_files.specs.Lines.{AreSpaces}
-use Rattle.mcc_payloads.specs.Payloads.{Payload, checksum_byte, payload_bytes}
-use Rattle.mcc_payloads.specs.Reading.{Open, is_whole, nothing_open, step, stepped}
-use Rattle.mcc_payloads.specs.declared.reader.Offence.{Offence}
-use Rattle.mcc_payloads.proofs.PacketLemmas.{packet_whole}
-use Rattle.mcc_payloads.proofs.ReadLemmas.{under_leads}
-use Rattle.mcc_payloads.proofs.SoundLemmas.{as_first, as_letter, as_second, open_so, step_so}
-use Rattle.mcc_payloads.proofs.StepLemmas.{at_bytes, leads}
+use Rattle.mcc_files.specs.Payloads.{Payload, checksum_byte, payload_bytes}
+use Rattle.mcc_files.specs.PayloadReading.{Open, is_whole, nothing_open, step, stepped}
+use Rattle.mcc_files.specs.declared.payload_reader.Offence.{Offence}
+use Rattle.mcc_files.proofs.PacketLemmas.{packet_whole}
+use Rattle.mcc_files.proofs.ReadLemmas.{under_leads}
+use Rattle.mcc_files.proofs.SoundLemmas.{as_first, as_letter, as_second, open_so, step_so}
+use Rattle.mcc_files.proofs.StepLemmas.{at_bytes, leads}
 use Rattle.mcc_files.specs.Lines.{AreDecimals, IsFieldPart, IsPacketLine, IsReadPast, is_letter}
 use Rattle.mcc_files.specs.Reading.{State, begins_time, begun, ends, in_phase, judged_frame, not_before, payload_begins, payload_goes, payload_read, run, take_byte, timed, within}
 use Rattle.mcc_files.specs.declared.phase.Phase.TheVariants as phase

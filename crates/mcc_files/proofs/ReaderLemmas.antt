@@ -6,9 +6,9 @@ use Rattle.mcc_files.specs.Phases.{why_in}
 use Rattle.mcc_files.specs.Reading.{at_first, ends, payload_in, placed_with}
 use Rattle.mcc_files.specs.Readers.{Finishes, HasRead, TakesByte, TakesOn, packet_in, read_bytes, state_of}
 use Rattle.mcc_files.specs.declared.reader.MccReader.{MccReader}
-use Rattle.mcc_payloads.specs.declared.reader.Offence.{Offence}
+use Rattle.mcc_files.specs.declared.payload_reader.Offence.{Offence}
 use Rattle.mcc_files.proofs.OriginLemmas.{ended_file, origin, whole_bytes}
-use Rattle.mcc_payloads.specs.Payloads.{payload_bytes}
+use Rattle.mcc_files.specs.Payloads.{payload_bytes}
 use Rattle.mcc_files.proofs.FileReads.{ends_lf}
 use Rattle.mcc_files.proofs.Refused.{first_offence, zero_more}
 use Rattle.mcc_files.proofs.RunLemmas.{run_more, stops_read, stops_short}

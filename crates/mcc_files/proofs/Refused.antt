@@ -14,13 +14,13 @@ use Rattle.time_codes.specs.declared.counting.Counting.{Counting}
 use Rattle.time_codes.specs.declared.time_code.TimeCode.{TimeCode}
 use Rattle.scc_files.specs.Lines.{AreSpaces, IsLineEnd}
 use Rattle.scc_files.specs.Phases.{is_blank}
-use Rattle.mcc_payloads.specs.Letters.{letter_bytes}
-use Rattle.mcc_payloads.specs.Offences.{IsItemWhy}
-use Rattle.mcc_payloads.specs.Reading.{joined}
-use Rattle.mcc_payloads.specs.Reading.{Open, is_whole, step}
-use Rattle.mcc_payloads.specs.declared.reader.Offence.{Offence}
-use Rattle.mcc_payloads.proofs.FirstLemmas.{Refuses, Stands, at_digit, at_item, closed_of, item_why, of_byte, of_digits, of_letter, refused_by}
-use Rattle.mcc_payloads.proofs.StepLemmas.{joined_is}
+use Rattle.mcc_files.specs.Letters.{letter_bytes}
+use Rattle.mcc_files.specs.PayloadOffences.{IsItemWhy}
+use Rattle.mcc_files.specs.PayloadReading.{joined}
+use Rattle.mcc_files.specs.PayloadReading.{Open, is_whole, step}
+use Rattle.mcc_files.specs.declared.payload_reader.Offence.{Offence}
+use Rattle.mcc_files.proofs.FirstLemmas.{Refuses, Stands, at_digit, at_item, closed_of, item_why, of_byte, of_digits, of_letter, refused_by}
+use Rattle.mcc_files.proofs.StepLemmas.{joined_is}
 use Rattle.mcc_files.specs.Lines.{IsMccForm, format_text, is_letter, nothing, one, rate_name}
 use Rattle.mcc_files.specs.MccFiles.{IsMccFile, TimedPackets}
 use Rattle.mcc_files.specs.Offences.{BeginsMccFile, EndsNone, EndsUnit, IsFirstOffence, IsUnoffendingMcc, MccByteOffends, MccEndsEarly, mcc_line_why}

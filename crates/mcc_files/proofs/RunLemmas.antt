@@ -4,7 +4,7 @@ use Rattle.cc_base.specs.declared.refusal.Refusal.{Refusal}
 use Rattle.mcc_files.specs.MccFiles.{TimedPackets}
 use Rattle.mcc_files.specs.Phases.{why_in}
 use Rattle.mcc_files.specs.Reading.{State, at_end, behind, ends, placed_with, read_from, run, take_byte, then_run}
-use Rattle.mcc_payloads.specs.declared.reader.Offence.{Offence}
+use Rattle.mcc_files.specs.declared.payload_reader.Offence.{Offence}
 
 -- a step that was taken
 pub record Went (one : Result State Offence) (rest : State → Result State Offence) (t : State) : Type 0 where

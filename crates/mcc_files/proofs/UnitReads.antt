@@ -12,17 +12,17 @@ use Rattle.time_codes.specs.Texts.{IsTimeText, ones, text_of}
 use Rattle.time_codes.specs.declared.counting.Counting.{Counting}
 use Rattle.time_codes.specs.declared.time_code.TimeCode.{TimeCode}
 use Rattle.scc_files.specs.Offences.{EndsLine, time_why_by}
-use Rattle.mcc_payloads.specs.Items.{AreDigits, IsLetter}
-use Rattle.mcc_payloads.specs.Letters.{letter_bytes}
-use Rattle.mcc_payloads.specs.Offences.{IsItemWhy}
-use Rattle.mcc_payloads.specs.Payloads.{Payload, bytes_with, payload_bytes}
-use Rattle.mcc_payloads.specs.Reading.{Open, is_whole, item_ends, joined, nothing_open, step}
-use Rattle.mcc_payloads.specs.declared.reader.Offence.{Offence}
-use Rattle.mcc_payloads.proofs.FirstLemmas.{digit_step, item_why, wrong_ends}
-use Rattle.mcc_payloads.proofs.OneLemmas.{begun_joined, digit_of, why_one}
-use Rattle.mcc_payloads.proofs.ReadLemmas.{items_lead}
-use Rattle.mcc_payloads.proofs.SoundLemmas.{packet_so}
-use Rattle.mcc_payloads.proofs.StepLemmas.{at_bytes}
+use Rattle.mcc_files.specs.Items.{AreDigits, IsLetter}
+use Rattle.mcc_files.specs.Letters.{letter_bytes}
+use Rattle.mcc_files.specs.PayloadOffences.{IsItemWhy}
+use Rattle.mcc_files.specs.Payloads.{Payload, bytes_with, payload_bytes}
+use Rattle.mcc_files.specs.PayloadReading.{Open, is_whole, item_ends, joined, nothing_open, step}
+use Rattle.mcc_files.specs.declared.payload_reader.Offence.{Offence}
+use Rattle.mcc_files.proofs.FirstLemmas.{digit_step, item_why, wrong_ends}
+use Rattle.mcc_files.proofs.OneLemmas.{begun_joined, digit_of, why_one}
+use Rattle.mcc_files.proofs.ReadLemmas.{items_lead}
+use Rattle.mcc_files.proofs.SoundLemmas.{packet_so}
+use Rattle.mcc_files.proofs.StepLemmas.{at_bytes}
 use Rattle.mcc_files.specs.Lines.{IsReadPast, Line, Version, one, rate, rate_name, two}
 use Rattle.mcc_files.specs.Offences.{AwaitsItem, AwaitsTime, BeginsMccFile, EndsInItem, EndsInTime, EndsItem, EndsRate, EndsTime, HasMccRate, IsUnoffendingMcc}
 use Rattle.mcc_files.specs.MccFiles.{IsMccFile}

@@ -12,15 +12,15 @@ use Rattle.time_codes.specs.declared.time_code.TimeCode.{TimeCode}
 use Rattle.hex_digits.specs.HexDigits.{hex_value}
 use Rattle.scc_files.specs.Lines.{IsLineEnd}
 use Rattle.scc_files.specs.Offences.{EndsLine}
-use Rattle.mcc_payloads.specs.Items.{AreItems}
-use Rattle.mcc_payloads.specs.Payloads.{IsPayload, Payload, checksum_byte, payload_bytes}
-use Rattle.mcc_payloads.specs.Reading.{Open, is_whole, joined, nothing_open}
-use Rattle.mcc_payloads.proofs.CompleteLemmas.{begins_payload}
-use Rattle.mcc_payloads.proofs.FirstLemmas.{Stands, at_digit, at_item, leads_one, some_digit}
-use Rattle.mcc_payloads.proofs.PacketLemmas.{packet_whole}
-use Rattle.mcc_payloads.proofs.ReadLemmas.{items_lead, under_leads}
-use Rattle.mcc_payloads.proofs.SoundLemmas.{read_is_payload}
-use Rattle.mcc_payloads.proofs.StepLemmas.{at_bytes}
+use Rattle.mcc_files.specs.Items.{AreItems}
+use Rattle.mcc_files.specs.Payloads.{IsPayload, Payload, checksum_byte, payload_bytes}
+use Rattle.mcc_files.specs.PayloadReading.{Open, is_whole, joined, nothing_open}
+use Rattle.mcc_files.proofs.CompleteLemmas.{begins_payload}
+use Rattle.mcc_files.proofs.FirstLemmas.{Stands, at_digit, at_item, leads_one, some_digit}
+use Rattle.mcc_files.proofs.PacketLemmas.{packet_whole}
+use Rattle.mcc_files.proofs.ReadLemmas.{items_lead, under_leads}
+use Rattle.mcc_files.proofs.SoundLemmas.{read_is_payload}
+use Rattle.mcc_files.proofs.StepLemmas.{at_bytes}
 use Rattle.mcc_files.specs.Lines.{IsAttribute, IsComment, IsMccForm, IsMccLine, IsName, IsPacketLine, IsRate, IsReadPast, Line, attribute, format_text, nothing, packet, rate, rate_name}
 use Rattle.mcc_files.specs.MccFiles.{IsMccFile, TimedPackets}
 use Rattle.mcc_files.specs.Offences.{AwaitsItem, AwaitsTime, BeginsMccFile, EndsInTime, HasMccRate, IsUnoffendingMcc}

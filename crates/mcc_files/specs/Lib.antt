@@ -1,3 +1,14 @@
+pub mod Letters
+pub mod Items
+pub mod Ahead
+pub mod Payloads
+pub mod PayloadReading
+pub mod Counts
+pub mod PayloadReaders
+pub mod Fillers
+pub mod PayloadWriting
+pub mod PayloadOffences
+pub mod PayloadWords
 pub mod Lines
 pub mod MccFiles
 pub mod Writing

@@ -8,7 +8,7 @@ use Rattle.time_codes.specs.Countings.{counting_text}
 use Rattle.time_codes.specs.Texts.{IsTimeText, is_digit}
 use Rattle.time_codes.specs.declared.counting.Counting.{Counting}
 use Rattle.time_codes.specs.declared.time_code.TimeCode.{TimeCode}
-use Rattle.mcc_payloads.specs.Payloads.{IsPayload, Payload}
+use Rattle.mcc_files.specs.Payloads.{IsPayload, Payload}
 use Rattle.scc_files.specs.Lines.{AreBlanks, AreSpaces, IsLineEnd}
 
 -- the versions of the format

@@ -5,7 +5,7 @@ use Rattle.std.specs.Prelude.{◌≡◌, ℕ, ◌≤◌, List, [], ◌∷◌, Ok
 use Rattle.time_codes.specs.Countings.{frame_in}
 use Rattle.time_codes.specs.declared.counting.Counting.{Counting}
 use Rattle.mcc_files.specs.Lines.{IsMccForm, Line, Version, attribute, nothing, packet, rate}
-use Rattle.mcc_payloads.specs.Payloads.{Payload}
+use Rattle.mcc_files.specs.Payloads.{Payload}
 
 -- packets, each at its frame of the day
 abbrev pub TimedPackets : Type 0

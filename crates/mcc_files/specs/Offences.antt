@@ -13,9 +13,9 @@ use Rattle.time_codes.specs.Countings.{frame_in}
 use Rattle.time_codes.specs.Texts.{IsTimeText}
 use Rattle.time_codes.specs.declared.counting.Counting.{Counting}
 use Rattle.time_codes.specs.declared.time_code.TimeCode.{TimeCode}
-use Rattle.mcc_payloads.specs.Items.{AreItems, IsItem}
-use Rattle.mcc_payloads.specs.Offences.{BeginsPayload, IsItemWhy}
-use Rattle.mcc_payloads.specs.Payloads.{IsPayload, Payload}
+use Rattle.mcc_files.specs.Items.{AreItems, IsItem}
+use Rattle.mcc_files.specs.PayloadOffences.{BeginsPayload, IsItemWhy}
+use Rattle.mcc_files.specs.Payloads.{IsPayload, Payload}
 use Rattle.scc_files.specs.Offences.{EndsLine, time_why_by}
 use Rattle.mcc_files.specs.Lines.{IsMccForm, IsReadPast, Line, Version, rate, rate_name}
 use Rattle.mcc_files.specs.MccFiles.{IsMccFile, Say, TimedPackets}

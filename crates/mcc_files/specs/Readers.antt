@@ -7,12 +7,12 @@ use Rattle.mcc_files.specs.MccFiles.{IsMccFile, TimedPackets}
 use Rattle.mcc_files.specs.Offences.{IsFirstOffence}
 use Rattle.mcc_files.specs.Reading.{State, at_first, ends, ends_at_lf, payload_in, run, take_byte}
 use Rattle.mcc_files.specs.declared.reader.MccReader.{MccReader}
-use Rattle.mcc_payloads.specs.Payloads.{Payload, payload_bytes}
+use Rattle.mcc_files.specs.Payloads.{Payload, payload_bytes}
 use Rattle.mcc_files.specs.declared.phase.Phase.{Phase}
 use Rattle.mcc_files.specs.declared.phase.Phase.TheVariants as phase
-use Rattle.mcc_payloads.specs.Readers.{open_of}
-use Rattle.mcc_payloads.specs.Reading.{Open, item_back, item_bytes}
-use Rattle.mcc_payloads.specs.declared.reader.Offence.{Offence}
+use Rattle.mcc_files.specs.PayloadReaders.{open_of}
+use Rattle.mcc_files.specs.PayloadReading.{Open, item_back, item_bytes}
+use Rattle.mcc_files.specs.declared.payload_reader.Offence.{Offence}
 
 -- what was read, where these packets were given
 abbrev pub state_of : MccReader → TimedPackets → State

@@ -16,9 +16,9 @@ use Rattle.mcc_files.specs.declared.phase.Phase.{Phase}
 use Rattle.mcc_files.specs.declared.phase.Phase.TheVariants as phase
 use Rattle.mcc_files.specs.declared.phase.RateText.{RateText}
 use Rattle.mcc_files.specs.declared.phase.RateText.TheVariants as rate_text
-use Rattle.mcc_payloads.specs.Payloads.{Payload}
-use Rattle.mcc_payloads.specs.Reading.{Open, is_whole, nothing_open, step}
-use Rattle.mcc_payloads.specs.declared.reader.Offence.{Offence}
+use Rattle.mcc_files.specs.Payloads.{Payload}
+use Rattle.mcc_files.specs.PayloadReading.{Open, is_whole, nothing_open, step}
+use Rattle.mcc_files.specs.declared.payload_reader.Offence.{Offence}
 
 -- what was read: where the bytes have ended, whether the first line is of version 2, the time code rate, the frame of the last time code,
 -- the bytes of an open time code's text, the open payload, and the packets of the lines that ended

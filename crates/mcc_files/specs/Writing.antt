@@ -9,8 +9,8 @@ use Rattle.time_codes.specs.declared.counting.Counting.{Counting}
 use Rattle.time_codes.specs.declared.counting.Counting.TheVariants as counting
 use Rattle.mcc_files.specs.Lines.{Version, format_text, one, two}
 use Rattle.mcc_files.specs.MccFiles.{TimedPackets}
-use Rattle.mcc_payloads.specs.Payloads.{Payload, payload_bytes}
-use Rattle.mcc_payloads.specs.Writing.{IsWritten}
+use Rattle.mcc_files.specs.Payloads.{Payload, payload_bytes}
+use Rattle.mcc_files.specs.PayloadWriting.{IsWritten}
 
 -- the version that is written: 2 at 60 frames a second with drop frame, else 1
 abbrev pub written_version : Counting → Version

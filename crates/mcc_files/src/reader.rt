@@ -5,9 +5,9 @@ ghost use Rattle.mcc_files.specs.Reading.{begins_time, judged_frame};
 ghost use Rattle.time_codes.specs.Texts.{time_of_text};
 
 use crate::phase::{Phase, RateText, is_blank, is_letter, matched};
+use crate::{Item, Offence, PayloadReader};
 use arrayvec::ArrayVec;
 use cc_base::Why;
-use mcc_payloads::{Item, Offence, PayloadReader};
 use time_codes::{Counting, frame_in, read_time_bytes};
 
 /// The text of the first line of version 1.
@@ -90,7 +90,7 @@ impl MccReader {
     ghost use Rattle.mcc_files.specs.declared.phase.Phase.TheVariants as phase;
     ghost use Rattle.mcc_files.specs.Reading.{awaits_payload, begun, ends, first_read, goes, in_phase, name_read, payload_read, rate_read, taken, time_read, within};
     ghost use Rattle.mcc_files.specs.Readers.{Finishes, HasRead, IsBehindLine, StepsTo, TakesByte, TakesOn, back_in, is_at_start, item_in, packet_in, read_bytes, state_of};
-    ghost use Rattle.mcc_payloads.specs.Readers.{open_of};
+    ghost use Rattle.mcc_files.specs.PayloadReaders.{open_of};
 
     /// A reader of no bytes.
     pub fn new() -> MccReader

@@ -1,12 +1,12 @@
 ghost use Rattle.std.specs.Prelude.{◌≡◌, ◌≤◌, ◌<◌, ◌+◌, ◌++◌, ◌∷◌, [], length};
-ghost use Rattle.mcc_payloads.specs.Payloads.{Payload};
-ghost use Rattle.mcc_payloads.specs.PayloadWords.{IsPayloadOf};
+ghost use Rattle.mcc_files.specs.Payloads.{Payload};
+ghost use Rattle.mcc_files.specs.PayloadWords.{IsPayloadOf};
 ghost use Rattle.time_codes.specs.Countings.{day_frames_in};
 ghost use Rattle.mcc_files.specs.Lines.{format_text};
 ghost use Rattle.mcc_files.specs.Writing.{IsWrittenLine, time_text, written_head, written_version};
 
+use crate::{add_payload, write_payload};
 use arrayvec::ArrayVec;
-use mcc_payloads::{add_payload, write_payload};
 use time_codes::{Counting, time_in, time_text};
 
 /// The most bytes of a head.

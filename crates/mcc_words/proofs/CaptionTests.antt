@@ -2,7 +2,7 @@
 use Rattle.std.proofs.Common.{◌≡◌, Bool, true, false, refl, sym, ◌∙◌, arith}
 use Rattle.std.proofs.lemmas.Bool.{true≢false}
 use Rattle.std.proofs.lemmas.Bool.Decides.{nat_tests}
-use Rattle.mcc_payloads.specs.Payloads.{Payload}
+use Rattle.mcc_files.specs.Payloads.{Payload}
 use Rattle.mcc_words.specs.MccWords.{carries_captions}
 
 pub are_captions : (payload : Payload) → carries_captions payload ≡ true → (payload.did ≡ 0x61) × (payload.sdid ≡ 0x01)

@@ -8,9 +8,9 @@ use Rattle.anc_words.specs.Writing.{packet_bytes}
 use Rattle.cc_base.specs.Rate.{rate_code}
 use Rattle.cdp_packets.specs.Packets.{Frame, IsCdp}
 use Rattle.mcc_files.specs.MccFiles.{TimedPackets}
-use Rattle.mcc_payloads.specs.Payloads.{Payload}
-use Rattle.mcc_payloads.specs.PayloadWords.{payload_words}
-use Rattle.mcc_payloads.proofs.WrittenLemmas.{AreBytes, back_bytes, tail_bytes}
+use Rattle.mcc_files.specs.Payloads.{Payload}
+use Rattle.mcc_files.specs.PayloadWords.{payload_words}
+use Rattle.mcc_files.proofs.WrittenLemmas.{AreBytes, back_bytes, tail_bytes}
 use Rattle.mcc_words.specs.Close.{AreClose, HaveBytes, IsClose, words_as_they_came}
 use Rattle.mcc_words.specs.Makers.{raises, was_raised}
 use Rattle.mcc_words.specs.MccWords.{AreCaptionWords, AreMccWords, AreWordsBehind, carries_captions, counts_missing, first_number, missing, missing_words, raised_by}

@@ -3,3 +3,9 @@ pub mod CloseLemmas
 pub mod MakerLemmas
 pub mod MissingLemmas
 pub mod RaiseLemmas
+pub mod WithoutLemmas
+pub mod UnchangedLemmas
+pub mod RaisedLemmas
+pub mod FileLemmas
+pub mod PartLemmas
+pub mod PlaceLemmas

@@ -2,8 +2,8 @@
 use Rattle.std.proofs.Common.{◌≡◌, ℕ, suc, ◌+◌, ◌%◌, inl, inr, true, false, List, [], ◌∷◌, ◌++◌, append_assoc, append-nil, Option, Some, None, refl, ap, sym, ◌∙◌, subst, add-one}
 use Rattle.anc_words.specs.Writing.{packet_bytes}
 use Rattle.mcc_files.specs.MccFiles.{TimedPackets}
-use Rattle.mcc_payloads.specs.Payloads.{Payload}
-use Rattle.mcc_payloads.specs.PayloadWords.{payload_words}
+use Rattle.mcc_files.specs.Payloads.{Payload}
+use Rattle.mcc_files.specs.PayloadWords.{payload_words}
 use Rattle.mcc_words.specs.Calls.{CallsMake}
 use Rattle.mcc_words.specs.Makers.{AreMissingFrames, BeginsCaptions, HasMade, PutsNext, words_left}
 use Rattle.mcc_words.specs.MccWords.{ArePacketWords, AreWordsBehind, carries_captions, missing, missing_words, raised_by}

@@ -3,8 +3,8 @@
 use Rattle.std.specs.Prelude.{◌≡◌, ℕ, true, false, List, [], ◌∷◌, ◌++◌, Some}
 use Rattle.anc_words.specs.Writing.{packet_bytes}
 use Rattle.mcc_files.specs.MccFiles.{TimedPackets}
-use Rattle.mcc_payloads.specs.Payloads.{Payload}
-use Rattle.mcc_payloads.specs.PayloadWords.{payload_words}
+use Rattle.mcc_files.specs.Payloads.{Payload}
+use Rattle.mcc_files.specs.PayloadWords.{payload_words}
 use Rattle.mcc_words.specs.Makers.{BeginsCaptions, HasMade, PutsNext, words_left}
 use Rattle.mcc_words.specs.MccWords.{AreMccWords, carries_captions}
 use Rattle.mcc_words.specs.Raised.{IsRaised}

@@ -3,7 +3,7 @@
 use Rattle.std.specs.Prelude.{◌≡◌, ℕ, ◌+◌, ◌≤◌, ◌<◌, ◌⊎◌, true, false, List, [], ◌∷◌, ◌++◌, Option, Some, None, ⊤}
 use Rattle.std.specs.List.{All}
 use Rattle.mcc_files.specs.MccFiles.{TimedPackets}
-use Rattle.mcc_payloads.specs.PayloadWords.{payload_words}
+use Rattle.mcc_files.specs.PayloadWords.{payload_words}
 use Rattle.mcc_words.specs.MccWords.{carries_captions}
 
 -- the frame is that behind the packet of captions before, at the latest

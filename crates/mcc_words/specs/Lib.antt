@@ -4,3 +4,5 @@ pub mod MccWords
 pub mod Makers
 pub mod Calls
 pub mod Close
+pub mod Standing
+pub mod Unchanged

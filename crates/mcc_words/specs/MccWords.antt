@@ -6,8 +6,8 @@ use Rattle.std.specs.Prelude.{◌≡◌, ℕ, ◌+◌, ◌-◌, ◌%◌, ◌==�
 use Rattle.anc_words.specs.Writing.{packet_bytes}
 use Rattle.cdp_packets.specs.Packets.{Frame, IsCdp}
 use Rattle.mcc_files.specs.MccFiles.{TimedPackets}
-use Rattle.mcc_payloads.specs.Payloads.{Payload}
-use Rattle.mcc_payloads.specs.PayloadWords.{payload_words}
+use Rattle.mcc_files.specs.Payloads.{Payload}
+use Rattle.mcc_files.specs.PayloadWords.{payload_words}
 use Rattle.mcc_words.specs.Missing.{words_without}
 use Rattle.mcc_words.specs.Raised.{IsRaised}
 use Rattle.mcc_words.specs.declared.maker.Before.{Before}

@@ -3,7 +3,7 @@ use Rattle.std.proofs.Common.{◌≡◌, ℕ, zero, suc, ◌+◌, ◌*◌, List,
 use Rattle.std.specs.List.{flat_map}
 use Rattle.std.proofs.lemmas.List.Concat.{flat_map-append}
 use Rattle.cdp_packets.specs.Packets.{Frame}
-use Rattle.halved_frames.specs.Conversion.{conversion, conversion_bytes, conversion_from, first_half_of, second_half_of}
+use Rattle.rate_convert.specs.Conversion.{conversion, conversion_bytes, conversion_from, first_half_of, second_half_of}
 use Rattle.words_files.specs.CarriedWords.{carried_words}
 use Rattle.rate_convert.specs.Halvers.{halves_words}
 

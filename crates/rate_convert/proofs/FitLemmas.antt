@@ -8,9 +8,9 @@ use Rattle.findings.specs.First.{IsFirstTried}
 use Rattle.findings.specs.declared.misfit.MisfitKind.TheVariants as misfit
 use Rattle.findings.specs.declared.finding.Which.{Which}
 use Rattle.findings.specs.declared.finding.Which.TheVariants as which
-use Rattle.halved_frames.specs.Conversion.{IsConvertible, conversion}
-use Rattle.halved_frames.proofs.ConvertedLemmas.{converted_halves}
-use Rattle.halved_frames.proofs.KeptLemmas.{show_the_same}
+use Rattle.rate_convert.specs.Conversion.{IsConvertible, conversion}
+use Rattle.rate_convert.proofs.ConvertedLemmas.{converted_halves}
+use Rattle.rate_convert.proofs.KeptLemmas.{show_the_same}
 use Rattle.line21_codes.specs.declared.channels.Chan.{Chan}
 use Rattle.line21_codes.specs.declared.channels.FieldNumber.TheVariants.{One, Two}
 use Rattle.words_files.specs.Received.{received_grids}

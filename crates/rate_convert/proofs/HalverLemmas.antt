@@ -10,9 +10,9 @@ use Rattle.dtvcc_services.specs.Objects.{all_ticks}
 use Rattle.findings.specs.First.{IsFirstTried}
 use Rattle.findings.specs.declared.finding.Which.TheVariants as which
 use Rattle.findings.specs.declared.misfit.MisfitKind.TheVariants as misfit
-use Rattle.halved_frames.specs.Conversion.{IsConvertible, conversion, first_half, first_half_of, second_half, second_half_of}
-use Rattle.halved_frames.proofs.ConvertedFileLemmas.{carried_alike}
-use Rattle.halved_frames.proofs.ConvertedLemmas.{converted_halves, first_triplets, second_triplets}
+use Rattle.rate_convert.specs.Conversion.{IsConvertible, conversion, first_half, first_half_of, second_half, second_half_of}
+use Rattle.rate_convert.proofs.ConvertedFileLemmas.{carried_alike}
+use Rattle.rate_convert.proofs.ConvertedLemmas.{converted_halves, first_triplets, second_triplets}
 use Rattle.service_blocks.specs.Channels.{IsHeard}
 use Rattle.service_blocks.proofs.ChannelLemmas.{channel_heard}
 use Rattle.services_files.specs.CaptionChannel.{caption_channel}

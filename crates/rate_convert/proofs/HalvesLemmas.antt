@@ -8,7 +8,7 @@ use Rattle.cc_base.specs.declared.rate.Rate.TheVariants.{F5994}
 use Rattle.cc_data.specs.Triplets.{filler}
 use Rattle.cc_data.specs.declared.triplet.Triplet.{Triplet}
 use Rattle.channel_packets.specs.ChannelPackets.{channel_triplets, continues_packet, starts}
-use Rattle.halved_frames.specs.Conversion.{first_half, is_of, of_field, second_half, ten_triplets}
+use Rattle.rate_convert.specs.Conversion.{first_half, is_of, of_field, second_half, ten_triplets}
 use Rattle.line21_codes.specs.declared.channels.FieldNumber.{FieldNumber}
 use Rattle.line21_codes.specs.declared.channels.FieldNumber.TheVariants.{One, Two}
 use Rattle.words_files.specs.CarriedWords.{carried_words, triplets_packet}

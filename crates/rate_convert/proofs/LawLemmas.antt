@@ -6,10 +6,10 @@ use Rattle.cc_receiver.specs.ReceivedServices.{received_windows}
 use Rattle.cdp_packets.specs.Packets.{Frame}
 use Rattle.dtvcc_screen.specs.Meaning.{Byte, Event, Reset, Served, Tick, on_event, start}
 use Rattle.dtvcc_services.specs.Numbers.{IsService}
-use Rattle.halved_frames.specs.Conversion.{IsConvertible, conversion}
-use Rattle.halved_frames.specs.UndelayedServices.{AreUndelayed}
-use Rattle.halved_frames.proofs.ConvertedLemmas.{converted_halves}
-use Rattle.halved_frames.proofs.KeptLemmas.{show_the_same}
+use Rattle.rate_convert.specs.Conversion.{IsConvertible, conversion}
+use Rattle.rate_convert.specs.UndelayedServices.{AreUndelayed}
+use Rattle.rate_convert.proofs.ConvertedLemmas.{converted_halves}
+use Rattle.rate_convert.proofs.KeptLemmas.{show_the_same}
 use Rattle.services_files.specs.Events.{service_events}
 use Rattle.services_files.proofs.EventLemmas.{events_more}
 use Rattle.words_files.specs.Received.{received_grids}

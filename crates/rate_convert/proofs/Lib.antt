@@ -1,3 +1,11 @@
+pub mod HalvedServiceLemmas
+pub mod UndelayedServiceLemmas
+pub mod HalvedFrameLemmas
+pub mod KeptLemmas
+pub mod DelayedLemmas
+pub mod CutLemmas
+pub mod ConvertedLemmas
+pub mod ConvertedFileLemmas
 pub mod ConversionLemmas
 pub mod FitLemmas
 pub mod ServedLemmas

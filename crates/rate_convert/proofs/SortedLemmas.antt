@@ -10,7 +10,7 @@ use Rattle.channel_packets.specs.ChannelPackets.{channel_triplets, continues_pac
 use Rattle.findings.specs.First.{IsFirstTried}
 use Rattle.findings.specs.declared.misfit.MisfitKind.{MisfitKind}
 use Rattle.findings.specs.declared.misfit.MisfitKind.TheVariants as misfit
-use Rattle.halved_frames.specs.Conversion.{IsConvertible, is_of, of_field}
+use Rattle.rate_convert.specs.Conversion.{IsConvertible, is_of, of_field}
 use Rattle.line21_codes.specs.declared.channels.FieldNumber.{FieldNumber}
 use Rattle.line21_codes.specs.declared.channels.FieldNumber.TheVariants.{One, Two}
 use Rattle.rate_convert.specs.Misfits.{Holds, rank}

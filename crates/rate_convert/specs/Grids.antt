@@ -6,7 +6,7 @@ use Rattle.cdp_packets.specs.Packets.{Frame}
 use Rattle.dtvcc_services.specs.Numbers.{IsService}
 use Rattle.findings.specs.declared.finding.Which.{Which}
 use Rattle.findings.specs.declared.finding.Which.TheVariants as which
-use Rattle.halved_frames.specs.Conversion.{conversion}
+use Rattle.rate_convert.specs.Conversion.{conversion}
 use Rattle.line21_codes.specs.declared.channels.Chan.{Chan}
 use Rattle.line21_codes.specs.declared.channels.Chan.TheVariants.{Cc1, Cc2, Cc3, Cc4}
 use Rattle.words_files.specs.Received.{received_grids}

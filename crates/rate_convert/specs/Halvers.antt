@@ -4,7 +4,7 @@ use Rattle.std.specs.Prelude.{◌≡◌, ℕ, ◌*◌, List, [], ◌∷◌, ◌+
 use Rattle.cdp_packets.specs.Packets.{Frame}
 use Rattle.dtvcc_services.specs.Objects.{all_ticks}
 use Rattle.findings.specs.declared.misfit.Misfit.{Misfit}
-use Rattle.halved_frames.specs.Conversion.{conversion, first_half_of, second_half_of}
+use Rattle.rate_convert.specs.Conversion.{conversion, first_half_of, second_half_of}
 use Rattle.words_files.specs.CarriedWords.{carried_words}
 use Rattle.rate_convert.specs.Grids.{KeepsGrids}
 use Rattle.rate_convert.specs.Misfits.{AreFit, IsMisfitAt}

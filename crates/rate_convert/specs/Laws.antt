@@ -7,8 +7,8 @@ use Rattle.dtvcc_screen.specs.Meaning.{start}
 use Rattle.dtvcc_services.specs.Numbers.{IsService}
 use Rattle.findings.specs.declared.misfit.Misfit.{Misfit}
 use Rattle.findings.specs.declared.misfit.MisfitKind.{MisfitKind}
-use Rattle.halved_frames.specs.Conversion.{IsConvertible, conversion}
-use Rattle.halved_frames.specs.UndelayedServices.{AreUndelayed}
+use Rattle.rate_convert.specs.Conversion.{IsConvertible, conversion}
+use Rattle.rate_convert.specs.UndelayedServices.{AreUndelayed}
 use Rattle.line21_codes.specs.declared.channels.Chan.{Chan}
 use Rattle.services_files.specs.Events.{service_events}
 use Rattle.words_files.specs.Received.{received_grids}

@@ -1,3 +1,10 @@
+pub mod HalvedServices
+pub mod UndelayedServices
+pub mod GoodStreams
+pub mod HalvedFrames
+pub mod ShownAlike
+pub mod Conversion
+pub mod ConvertedFrames
 pub mod Differing
 pub mod Grids
 pub mod Misfits

@@ -10,7 +10,7 @@ use Rattle.findings.specs.First.{IsFirstTried}
 use Rattle.findings.specs.declared.misfit.Misfit.{Misfit}
 use Rattle.findings.specs.declared.misfit.MisfitKind.{MisfitKind}
 use Rattle.findings.specs.declared.misfit.MisfitKind.TheVariants as misfit
-use Rattle.halved_frames.specs.Conversion.{IsConvertible, of_field}
+use Rattle.rate_convert.specs.Conversion.{IsConvertible, of_field}
 use Rattle.line21_codes.specs.declared.channels.FieldNumber.TheVariants.{One, Two}
 use Rattle.rate_convert.specs.Grids.{IsChanged, KeepsGrids, grid_place}
 

@@ -6,7 +6,7 @@ use Rattle.cc_data.specs.declared.triplet.Triplet.{Triplet}
 use Rattle.cdp_packets.specs.PacketTriplets.{packet_triplets}
 use Rattle.cdp_packets.specs.Packets.{Frame}
 use Rattle.channel_packets.specs.ChannelPackets.{channel_triplets}
-use Rattle.halved_frames.specs.Conversion.{IsConvertible, of_field}
+use Rattle.rate_convert.specs.Conversion.{IsConvertible, of_field}
 use Rattle.line21_codes.specs.declared.channels.FieldNumber.TheVariants.{One, Two}
 use Rattle.rate_convert.specs.declared.sorted.Sorted.{Sorted}
 

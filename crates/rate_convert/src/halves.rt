@@ -7,7 +7,7 @@ ghost use Rattle.cc_receiver.specs.ReceivedServices.{received_windows};
 ghost use Rattle.cdp_packets.specs.Packets.{Frame};
 ghost use Rattle.dtvcc_services.specs.Numbers.{IsService};
 ghost use Rattle.dtvcc_services.specs.Objects.{all_ticks};
-ghost use Rattle.halved_frames.specs.Conversion.{first_half, second_half, ten_triplets};
+ghost use Rattle.rate_convert.specs.Conversion.{first_half, second_half, ten_triplets};
 ghost use Rattle.rate_convert.specs.ServedFrames.{AreNext, AreServed};
 ghost use Rattle.rate_convert.specs.SortedTriplets.{AreSorted, IsSorted};
 ghost use Rattle.words_files.specs.CarriedWords.{carried_words, triplets_packet};

@@ -3,9 +3,9 @@ ghost use Rattle.dtvcc_codes.specs.Spellable.{IsDefinition};
 use cc_base::{MemorySink, Put};
 use dtvcc_codes::Definition;
 use dtvcc_windows::Window;
+use grid_print::write_window;
 use std::alloc::AllocError;
 use text_output::Gathered;
-use window_texts::write_window;
 
 // A visible window of one row of ten columns at 60 and 50 of the screen, in the window style 1 and the pen style 1.
 fn one_row() -> Definition

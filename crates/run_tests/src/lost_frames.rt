@@ -4,11 +4,11 @@
 ghost use Rattle.std.specs.Prelude.{◌≤◌, ℕ, List};
 ghost use Rattle.cc_conceal.specs.Concealers.{HasConcealed};
 ghost use Rattle.dtvcc_services.specs.Numbers.{IsService};
-ghost use Rattle.authored_places.specs.WindowSeen.{IsFormedCue};
+ghost use Rattle.cc_verifier.specs.WindowSeen.{IsFormedCue};
 
 use crate::given::given_of;
-use authored_places::{Line, cell_at, window_differs};
 use cc_conceal::Concealer;
+use cc_verifier::{Line, cell_at, window_differs};
 use cue_lists::lane::is_pop;
 use cue_lists::line21::{base_row, continues, is_on};
 use cue_lists::{Cue, CueList, Kind, check, parse};

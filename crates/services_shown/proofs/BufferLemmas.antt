@@ -4,7 +4,7 @@ use Rattle.dtvcc_screen.specs.Meaning.{Event, start}
 use Rattle.cue_lists.specs.Listing.{IsFormed, Listing}
 use Rattle.cue_lists.specs.Rules.{IsRuled}
 use Rattle.cue_lists.specs.declared.lane.Lane.TheVariants.{Service}
-use Rattle.dtvcc_shown.specs.Filling.{AllFill}
+use Rattle.windows_shown.specs.Filling.{AllFill}
 use Rattle.frame_carrier.specs.Carrying.{column_packets}
 use Rattle.frame_scheduler.specs.Planned.{Placement, columns_of}
 use Rattle.services_shown.specs.PlacedServices.{AreServicesPlaced}

@@ -21,9 +21,9 @@ use Rattle.dtvcc_author.specs.WindowCommands.{commands_of}
 use Rattle.dtvcc_author.specs.FrameEvents.{delay_commands, delayed_at, event_bytes, event_commands, is_delayed_at, is_hidden_at, is_shown_at, names, windows_byte, windows_command}
 use Rattle.dtvcc_author.specs.declared.caption.Caption.{Caption}
 use Rattle.dtvcc_author.proofs.WritableLemmas.{commands_writable}
-use Rattle.service_lanes.specs.ServiceBytes.{bytes_in, loads_at}
-use Rattle.service_lanes.specs.ServiceChunks.{chunk_of, chunks_with, service_chunks, service_chunks_from}
-use Rattle.service_lanes.specs.Chunks.{ServiceChunk}
+use Rattle.lanes.specs.ServiceBytes.{bytes_in, loads_at}
+use Rattle.lanes.specs.ServiceChunks.{chunk_of, chunks_with, service_chunks, service_chunks_from}
+use Rattle.lanes.specs.Chunks.{ServiceChunk}
 use Rattle.frame_scheduler.specs.Blocks.{service_block}
 
 -- a byte

@@ -12,11 +12,11 @@ use Rattle.dtvcc_codes.proofs.CutLemmas.{bytes_are_cut}
 use Rattle.dtvcc_author.specs.Captions.{service_captions}
 use Rattle.dtvcc_author.specs.CueUnits.{IsWritable}
 use Rattle.dtvcc_author.specs.FrameEvents.{event_bytes, event_commands}
-use Rattle.dtvcc_shown.proofs.PlacedLanesLemmas.{loads_hold}
-use Rattle.dtvcc_shown.proofs.UnitLemmas.{is_loading, units_hold}
-use Rattle.dtvcc_shown.proofs.WrittenLemmas.{spelled_by}
-use Rattle.service_lanes.specs.ServiceBytes.{bytes_in, loads_at}
-use Rattle.service_lanes.specs.ServiceChunks.{service_chunks}
+use Rattle.windows_shown.proofs.PlacedLanesLemmas.{loads_hold}
+use Rattle.windows_shown.proofs.UnitLemmas.{is_loading, units_hold}
+use Rattle.windows_shown.proofs.WrittenLemmas.{spelled_by}
+use Rattle.lanes.specs.ServiceBytes.{bytes_in, loads_at}
+use Rattle.lanes.specs.ServiceChunks.{service_chunks}
 use Rattle.services_shown.proofs.ByteLemmas.{captions_short, events_writable}
 
 -- no bytes are cut into no commands

@@ -26,11 +26,11 @@ use Rattle.dtvcc_author.specs.Latest.{caption_delay}
 use Rattle.dtvcc_author.specs.declared.caption.Caption.{Caption}
 use Rattle.dtvcc_author.specs.declared.frame_events.Delay.{Delay}
 use Rattle.dtvcc_author.proofs.LatestLemmas.{Has, find_delayed, kept_sound}
-use Rattle.dtvcc_shown.proofs.CaptionLanesLemmas.{none_passes, starting}
-use Rattle.dtvcc_shown.proofs.UnitLemmas.{is_loading}
+use Rattle.windows_shown.proofs.CaptionLanesLemmas.{none_passes, starting}
+use Rattle.windows_shown.proofs.UnitLemmas.{is_loading}
 use Rattle.frame_scheduler.specs.Planned.{Placement, service_bytes}
-use Rattle.service_lanes.proofs.CaptionsKept.{captions_kept}
-use Rattle.service_lanes.proofs.DelayLemmas.{delay_some, two_of}
+use Rattle.lanes.proofs.CaptionsKept.{captions_kept}
+use Rattle.lanes.proofs.DelayLemmas.{delay_some, two_of}
 use Rattle.services_shown.specs.Delays.{AreDelaysSent, IsDelaySent, shows}
 use Rattle.services_shown.proofs.CutLemmas.{frame_cut, frame_loads}
 use Rattle.windows_shown.proofs.NamedLemmas.{named_is}

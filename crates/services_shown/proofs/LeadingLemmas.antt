@@ -7,15 +7,15 @@ use Rattle.cue_lists.specs.Rules.{IsRuled}
 use Rattle.cue_lists.specs.declared.lane.Lane.TheVariants.{Service}
 use Rattle.dtvcc_screen.specs.Meaning.{Served, served_after, start}
 use Rattle.dtvcc_screen.proofs.MeaningLemmas.{after_append}
-use Rattle.dtvcc_shown.specs.Filling.{AllFill}
-use Rattle.dtvcc_shown.specs.ServiceLanes.{Lane, lane_frame_bytes, lane_frame_events, served}
-use Rattle.dtvcc_shown.specs.Soundness.{IsSoundLane}
-use Rattle.dtvcc_shown.proofs.CaptionLanesLemmas.{lane_bytes_are, lane_sound}
-use Rattle.dtvcc_shown.proofs.FrameLemmas.{buffer_keeps, fill_append}
+use Rattle.windows_shown.specs.Filling.{AllFill}
+use Rattle.windows_shown.specs.ServiceLanes.{Lane, lane_frame_bytes, lane_frame_events, served}
+use Rattle.windows_shown.specs.Soundness.{IsSoundLane}
+use Rattle.windows_shown.proofs.CaptionLanesLemmas.{lane_bytes_are, lane_sound}
+use Rattle.windows_shown.proofs.FrameLemmas.{buffer_keeps, fill_append}
 use Rattle.frame_carrier.specs.Carrying.{column_packets}
 use Rattle.frame_scheduler.specs.Planned.{Placement, captions_in, chunks_in, columns_of, service_bytes, share_in}
 use Rattle.services_shown.specs.PlacedServices.{AreServicesPlaced}
-use Rattle.service_lanes.proofs.CaptionsKept.{captions_kept}
+use Rattle.lanes.proofs.CaptionsKept.{captions_kept}
 use Rattle.services_shown.specs.Told.{told}
 use Rattle.services_shown.proofs.LaneLemmas.{services_told}
 use Rattle.services_shown.proofs.ToldLemmas.{packets_count, told_same}

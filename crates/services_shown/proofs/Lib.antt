@@ -8,3 +8,7 @@ pub mod BufferLemmas
 pub mod SeenLemmas
 pub mod CutLemmas
 pub mod DelayLemmas
+pub mod OtherPairsLemmas
+pub mod PlacedBlocksLemmas
+pub mod SoundSeenLemmas
+pub mod SoundLemmas

@@ -5,7 +5,7 @@ use Rattle.std.specs.Prelude.{ℕ, List}
 use Rattle.cdp_packets.specs.Packets.{Frame}
 use Rattle.dtvcc_screen.specs.Meaning.{start}
 use Rattle.dtvcc_services.specs.Numbers.{IsService}
-use Rattle.dtvcc_shown.specs.Filling.{AllFill}
+use Rattle.windows_shown.specs.Filling.{AllFill}
 use Rattle.services_files.specs.Events.{service_events}
 
 -- at every byte of every service at most 127 bytes are held

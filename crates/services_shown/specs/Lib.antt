@@ -4,3 +4,8 @@ pub mod Told
 pub mod Buffers
 pub mod Delays
 pub mod SeenWindows
+pub mod OtherPairs
+pub mod PlacedBlocks
+pub mod Shares
+pub mod Showing
+pub mod Sound

@@ -1,7 +1,7 @@
 -- Between crates: the program's answer stands on none of these definitions.
 -- That what a receiver shows of the services is what a cue list authors (CTA-708-E, caption windows).
 use Rattle.std.specs.Prelude.{◌≡◌, ℕ, suc, ◌<◌, List, take}
-use Rattle.authored_grids.specs.AuthoredServiceGrid.{authored_windows}
+use Rattle.cue_lists.specs.AuthoredServiceGrid.{authored_windows}
 use Rattle.cc_receiver.specs.ReceivedServices.{received_windows}
 use Rattle.cdp_packets.specs.Packets.{Frame}
 use Rattle.cue_types.specs.declared.cue.Cue.{Cue}

@@ -1,6 +1,7 @@
-//! What the words of a whole cue list are to a receiver, service by service: each frame keeps to its room, the words carry a
-//! caption channel, by which each service is told just the bytes of its lane; no byte of them fills a buffer, at every frame the
-//! authored windows are seen, and the delay of each window cue is sent. Definitions and laws alone.
+//! What the words of frames are to a receiver, whatever makes the frames: each keeps to its room, they carry a caption channel, and
+//! no byte fills a buffer. By those of a cue list each service is told just the bytes of its lane, and shows the authored windows
+//! at every frame. Definitions and laws alone.
 #![tactic(auto)]
 
 pub mod laws;
+pub mod sound_laws;

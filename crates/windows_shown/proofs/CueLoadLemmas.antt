@@ -18,13 +18,13 @@ use Rattle.dtvcc_screen.specs.Laws.{is_text}
 use Rattle.dtvcc_screen.specs.Screens.{ScreenState}
 use Rattle.dtvcc_author.specs.declared.caption.Caption.{Caption}
 use Rattle.dtvcc_author.specs.CueUnits.{IsWritable}
-use Rattle.service_lanes.specs.Chunks.{ServiceChunk}
-use Rattle.service_lanes.specs.ServiceBytes.{AreFramesFrom, loads_at}
-use Rattle.service_lanes.specs.ServiceChunks.{chunk_of}
-use Rattle.window_loading.specs.Loading.{edited_all, seen_behind}
-use Rattle.dtvcc_shown.specs.Soundness.{is_plain}
-use Rattle.dtvcc_shown.specs.Undelayed.{acted_on}
-use Rattle.dtvcc_shown.proofs.WrittenLemmas.{acted_append, written_acts, written_plain}
+use Rattle.lanes.specs.Chunks.{ServiceChunk}
+use Rattle.lanes.specs.ServiceBytes.{AreFramesFrom, loads_at}
+use Rattle.lanes.specs.ServiceChunks.{chunk_of}
+use Rattle.windows_shown.specs.Loading.{edited_all, seen_behind}
+use Rattle.windows_shown.specs.Soundness.{is_plain}
+use Rattle.windows_shown.specs.Undelayed.{acted_on}
+use Rattle.windows_shown.proofs.WrittenLemmas.{acted_append, written_acts, written_plain}
 use Rattle.windows_shown.proofs.ByteLemmas.{AreLoads}
 use Rattle.windows_shown.proofs.CaptionLoads.{AreInOrder, AreRising, Among, CaptionLoad, IsBefore, IsTextOf, captions, edits, load_acts, text_acts}
 use Rattle.windows_shown.proofs.EditLemmas.{all_frames}

@@ -4,9 +4,9 @@ use Rattle.std.proofs.Common.{◌≡◌, ◌∙◌, ℕ, zero, suc, ◌+◌, ◌
 use Rattle.std.proofs.lemmas.Bool.Decides.{nat_tests}
 use Rattle.dtvcc_author.specs.declared.frame_events.Delay.{Delay}
 use Rattle.dtvcc_screen.specs.Meaning.{Served, served_after}
-use Rattle.dtvcc_shown.specs.ServiceLanes.{Lane, lane_frame_events, served, spent}
-use Rattle.dtvcc_shown.specs.Soundness.{ArePlain, HasOnlyLoads, IsSoundLane}
-use Rattle.dtvcc_shown.proofs.PlainLemmas.{nothing_plain}
+use Rattle.windows_shown.specs.ServiceLanes.{Lane, lane_frame_events, served, spent}
+use Rattle.windows_shown.specs.Soundness.{ArePlain, HasOnlyLoads, IsSoundLane}
+use Rattle.windows_shown.proofs.PlainLemmas.{nothing_plain}
 
 -- the lane without what comes before a frame
 abbrev pub heard_lane : ℕ → Lane → Lane

@@ -1,3 +1,14 @@
+pub mod LoadedTextLemmas
+pub mod RunLemmas
+pub mod ApartLemmas
+pub mod LoadingLemmas
+pub mod AuthoredLemmas
+pub mod PlainLemmas
+pub mod WrittenLemmas
+pub mod FrameLemmas
+pub mod PlacedLanesLemmas
+pub mod UnitLemmas
+pub mod CaptionLanesLemmas
 pub mod NamedLemmas
 pub mod CaptionLoads
 pub mod TextLemmas

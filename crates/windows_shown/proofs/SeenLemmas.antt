@@ -14,7 +14,7 @@ use Rattle.dtvcc_author.specs.declared.caption.Caption.{Caption}
 use Rattle.dtvcc_author.specs.FrameEvents.{names}
 use Rattle.dtvcc_author.specs.Kept.{AreKept, IsUncovered}
 use Rattle.dtvcc_author.proofs.LatestLemmas.{Has}
-use Rattle.window_loading.proofs.LoadLemmas.{edit_hidden}
+use Rattle.windows_shown.proofs.LoadingLemmas.{edit_hidden}
 use Rattle.windows_shown.proofs.CaptionLoads.{AreInOrder, Among, CaptionLoad, IsOrdered, before, captions, edits, own_edits}
 use Rattle.windows_shown.proofs.MemberLemmas.{Two, named_by, names_it, order_of, sound_of, two}
 use Rattle.windows_shown.proofs.HeardLemmas.{if_heard, is_heard, is_lost}

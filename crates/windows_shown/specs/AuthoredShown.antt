@@ -3,12 +3,12 @@
 use Rattle.std.specs.Prelude.{◌≡◌, ℕ, suc, ◌<◌, List, []}
 use Rattle.std.specs.List.{zip}
 use Rattle.cue_types.specs.Listing.{Listing}
-use Rattle.authored_grids.specs.AuthoredServiceGrid.{authored_windows}
+use Rattle.cue_lists.specs.AuthoredServiceGrid.{authored_windows}
 use Rattle.dtvcc_screen.specs.Shown.{grids}
-use Rattle.placements.specs.Placing.{IsPlaced}
+use Rattle.lanes.specs.Placing.{IsPlaced}
 use Rattle.frame_scheduler.specs.Planned.{captions_in, chunks_in, service_lane_of}
-use Rattle.dtvcc_shown.specs.CaptionLanes.{lane_of}
-use Rattle.dtvcc_shown.specs.ServiceLanes.{Lane, served}
+use Rattle.windows_shown.specs.CaptionLanes.{lane_of}
+use Rattle.windows_shown.specs.ServiceLanes.{Lane, served}
 
 -- the units of a service stand in these frames, each where the service's lane allows it
 abbrev pub IsServicePlaced : Listing → ℕ → List ℕ → Type 0

@@ -3,11 +3,11 @@
 use Rattle.std.specs.Prelude.{ℕ, suc, Bool, List, [], ◌∷◌, Option, is_some}
 use Rattle.std.specs.Option.{option_and_then}
 use Rattle.cue_types.specs.Listing.{Listing}
-use Rattle.cue_rules.specs.Rules.Examples.{window, window_list}
+use Rattle.cue_lists.specs.Rules.Examples.{window, window_list}
 use Rattle.dtvcc_windows.specs.Showing.{ShownWindow}
 use Rattle.dtvcc_windows.specs.declared.cells.DCell.{DCell}
 use Rattle.dtvcc_screen.specs.Shown.{grids}
-use Rattle.dtvcc_shown.specs.ServiceLanes.{served}
+use Rattle.windows_shown.specs.ServiceLanes.{served}
 use Rattle.windows_shown.specs.AuthoredShown.{list_lane}
 
 -- service 1 has a window 0 from frame 4 up to 12, a window 1 from 10 up to 20, whose DELAY of a tenth of a second is 3 frames, a

@@ -1,2 +1,10 @@
+pub mod Loading
+pub mod LoadingExamples
+pub mod ServiceLanes
+pub mod Soundness
+pub mod Filling
+pub mod PlacedLanes
+pub mod CaptionLanes
+pub mod Undelayed
 pub mod AuthoredShown
 pub mod Examples

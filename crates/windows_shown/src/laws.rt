@@ -1,11 +1,11 @@
 //! Laws of the definitions: functions without a body, whose contract is the law.
 
 ghost use Rattle.std.specs.Prelude.{◌≡◌, ℕ, false, true, List, [], ◌∷◌, None, map};
-ghost use Rattle.authored_grids.specs.WindowExamples.{cell, example_white};
-ghost use Rattle.cue_rules.specs.Rules.{IsRuled};
+ghost use Rattle.cue_lists.specs.WindowExamples.{cell, example_white};
+ghost use Rattle.cue_lists.specs.Rules.{IsRuled};
 ghost use Rattle.cue_types.specs.Listing.{IsFormed, Listing};
 ghost use Rattle.cue_types.specs.declared.lane.Lane.TheVariants.{Service};
-ghost use Rattle.dtvcc_shown.specs.ServiceLanes.{lane_frame_bytes};
+ghost use Rattle.windows_shown.specs.ServiceLanes.{lane_frame_bytes};
 ghost use Rattle.frame_scheduler.specs.Planned.{IsListPlaced, Placement};
 ghost use Rattle.windows_shown.specs.AuthoredShown.{IsServicePlaced, ShowsAuthored, list_lane};
 ghost use Rattle.windows_shown.specs.Examples.{cell_seen, delayed_frames, delayed_list, is_seen};

@@ -7,3 +7,9 @@ pub mod KnownLemmas
 pub mod PieceLemmas
 pub mod UnderwayLemmas
 pub mod WayLemmas
+pub mod RoomLemmas
+pub mod SizeLemmas
+pub mod PacketEndLemmas
+pub mod FeedLemmas
+pub mod RefusedLemmas
+pub mod PacketWayLemmas

@@ -5,3 +5,4 @@ pub mod FramesRead
 pub mod Judging
 pub mod Reading
 pub mod Statuses
+pub mod OpenPackets

@@ -9,9 +9,9 @@ use Rattle.cue_list_commands.specs.Accepted.{IsGoodList, IsRefusedList}
 use Rattle.cue_lists.specs.Listing.{Listing}
 use Rattle.frame_scheduler.specs.Columns.{Columns}
 use Rattle.frame_scheduler.specs.Planned.{IsListPlaced, Placement}
-use Rattle.programme_runs.specs.Made.{IsMadeOf}
-use Rattle.programmes.specs.declared.programme.Programme.{Programme}
-use Rattle.xds_beside_captions.specs.XdsFrames.{AreSendable, HasXdsRoom, xds_columns}
+use Rattle.cue_list_commands.specs.Made.{IsMadeOf}
+use Rattle.frame_carrier.specs.declared.programme.Programme.{Programme}
+use Rattle.xds_frames.specs.XdsFrames.{AreSendable, HasXdsRoom, xds_columns}
 use Rattle.xds_commands.specs.PlacedPackets.{IsPlacedWith, IsXdsRefusal}
 use Rattle.xds_commands.specs.XdsStatus.{fault_status}
 use Rattle.xds_commands.specs.XdsWords.{IsSoundXds, xds_framing}

@@ -7,7 +7,7 @@ use Rattle.std.proofs.Math.Path.{fun_ext}
 use Rattle.cue_lists.specs.Listing.{Listing}
 use Rattle.cue_lists.specs.declared.lane.Lane.TheVariants.{Channel}
 use Rattle.frame_carrier.specs.Carrying.{column_bytes}
-use Rattle.field_lanes.specs.ChannelLane.{channel_slot}
+use Rattle.lanes.specs.ChannelLane.{channel_slot}
 use Rattle.frame_scheduler.specs.Columns.{Columns}
 use Rattle.frame_scheduler.specs.Planned.{Placement, columns_of}
 use Rattle.frame_scheduler.specs.SlotLists.{slot_cues}
@@ -15,8 +15,8 @@ use Rattle.line21_codes.specs.declared.channels.Chan.TheVariants.{Cc3}
 use Rattle.line21_codes.specs.declared.codes.Code.{Code}
 use Rattle.line21_codes.specs.declared.pairs.Pair.{Pair}
 use Rattle.line21_slots.specs.Cadences.{cadence_of, slot_in}
-use Rattle.xds_beside_captions.specs.FreeSlots.{frame_of_slot, free_in}
-use Rattle.xds_beside_captions.specs.XdsFrames.{xds_columns, xds_pair}
+use Rattle.xds_frames.specs.FreeSlots.{frame_of_slot, free_in}
+use Rattle.xds_frames.specs.XdsFrames.{xds_columns, xds_pair}
 use Rattle.xds_commands.specs.XdsWords.{NoPacketsAreBuilt}
 use Rattle.xds_packets.specs.Places.{given_at}
 use Rattle.xds_packets.specs.Sending.{Unsent, begun_at, given_in, sent_on, writing_at}

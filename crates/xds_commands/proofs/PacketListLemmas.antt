@@ -9,8 +9,8 @@ use Rattle.command_base.specs.WholeInput.{JudgesInput}
 use Rattle.command_base.specs.declared.status.Place.TheVariants.{Field}
 use Rattle.command_base.specs.declared.status.Status.{Status}
 use Rattle.command_base.specs.declared.status.Status.TheVariants as status
-use Rattle.record_files.specs.Records.{records_of}
-use Rattle.record_files.specs.declared.offence.Offence.TheVariants as offence
+use Rattle.cue_form.specs.Records.{records_of}
+use Rattle.cue_form.specs.declared.offence.Offence.TheVariants as offence
 use Rattle.xds_commands.specs.PacketLists.{IsGoodPackets, IsRefusedPackets, packets_status}
 use Rattle.xds_lists.proofs.ReadLemmas.{first_fault_is_answered, spelled_is_read}
 use Rattle.xds_lists.specs.FirstFault.{FaultsFirst}

@@ -11,13 +11,13 @@ use Rattle.services_shown.proofs.ToldLemmas.{take_packets}
 use Rattle.services_shown.specs.PlacedServices.{AreServicesPlaced}
 use Rattle.services_shown.proofs.DelayLemmas.{delays_sent}
 use Rattle.services_shown.proofs.SeenLemmas.{authored_windows_seen}
-use Rattle.sound_frames.proofs.PlacedBlocksLemmas.{fit_blocks, shares_kept}
-use Rattle.sound_frames.proofs.SeenLemmas.{columns_seen}
-use Rattle.sound_frames.proofs.SoundLemmas.{fit_sound}
-use Rattle.sound_frames.specs.Sound.{IsSoundFrames}
+use Rattle.services_shown.proofs.PlacedBlocksLemmas.{fit_blocks, shares_kept}
+use Rattle.services_shown.proofs.SoundSeenLemmas.{columns_seen}
+use Rattle.services_shown.proofs.SoundLemmas.{fit_sound}
+use Rattle.services_shown.specs.Sound.{IsSoundFrames}
 use Rattle.words_files.specs.Received.{received_pairs}
-use Rattle.xds_beside_captions.proofs.XdsLemmas.{packets_are_read, packets_change_nothing, packets_leave_sound}
-use Rattle.xds_beside_captions.specs.XdsFrames.{AreSendable, HasXdsRoom, IsSoundBeside, ShowTheSame, xds_columns}
+use Rattle.xds_frames.proofs.XdsLemmas.{packets_are_read, packets_change_nothing, packets_leave_sound}
+use Rattle.xds_frames.specs.XdsFrames.{AreSendable, HasXdsRoom, IsSoundBeside, ShowTheSame, xds_columns}
 use Rattle.xds_commands.specs.XdsWords.{IsSoundXds}
 use Rattle.xds_packets.specs.Reading.{packets_within}
 use Rattle.xds_packets.specs.Sending.{Listed, packets_left}

@@ -14,8 +14,8 @@ use Rattle.cue_lists.specs.Listing.{Listing}
 use Rattle.frame_scheduler.proofs.LanesLemmas.{one_placement}
 use Rattle.frame_scheduler.specs.Planned.{IsListPlaced, Placement}
 use Rattle.command_base.proofs.MakesLemmas.{made_accepted, made_refused, made_told}
-use Rattle.programmes.specs.Framing.{words_of}
-use Rattle.xds_beside_captions.specs.XdsFrames.{HasXdsRoom, IsFirstWithoutXdsRoom}
+use Rattle.frame_carrier.specs.Framing.{words_of}
+use Rattle.xds_frames.specs.XdsFrames.{HasXdsRoom, IsFirstWithoutXdsRoom}
 use Rattle.xds_commands.specs.PacketLists.{IsGoodPackets, IsRefusedPackets}
 use Rattle.xds_commands.specs.PlacedPackets.{IsPlacedWith, IsXdsRefusal}
 use Rattle.xds_commands.specs.XdsAnswer.{XdsAnswer}

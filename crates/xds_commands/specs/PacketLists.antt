@@ -6,7 +6,7 @@ use Rattle.cc_base.specs.declared.limit_of.LimitOf.TheVariants as limit
 use Rattle.command_base.specs.declared.status.Place.TheVariants.{Field}
 use Rattle.command_base.specs.declared.status.Status.{Status}
 use Rattle.command_base.specs.declared.status.Status.TheVariants as status
-use Rattle.record_files.specs.Records.{records_of}
+use Rattle.cue_form.specs.Records.{records_of}
 use Rattle.xds_lists.specs.FirstFault.{IsFirstPacketFault}
 use Rattle.xds_lists.specs.Form.{SpellPackets}
 use Rattle.xds_lists.specs.declared.fault.XdsFault.{XdsFault}

@@ -6,7 +6,7 @@ use Rattle.command_base.specs.declared.status.Status.TheVariants as status
 use Rattle.cue_list_commands.specs.Accepted.{IsAccepted, IsRefused, SpellGoodList}
 use Rattle.cue_lists.specs.Listing.{Listing}
 use Rattle.frame_scheduler.specs.Planned.{Placement}
-use Rattle.xds_beside_captions.specs.XdsFrames.{HasXdsRoom}
+use Rattle.xds_frames.specs.XdsFrames.{HasXdsRoom}
 use Rattle.xds_frames.specs.PlanAnswer.{LacksXdsRoom}
 use Rattle.xds_packets.specs.Sending.{Listed}
 

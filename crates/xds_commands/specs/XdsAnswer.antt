@@ -5,7 +5,7 @@ use Rattle.command_base.specs.Ends.{Ends}
 use Rattle.command_base.specs.declared.status.Status.{Status}
 use Rattle.cue_list_commands.specs.SideEnds.{SideEnds}
 use Rattle.command_base.specs.MakesAnswer.{BesideAnswer, MakesAnswer}
-use Rattle.programmes.specs.Framing.{words_of}
+use Rattle.frame_carrier.specs.Framing.{words_of}
 use Rattle.xds_commands.specs.PacketLists.{IsGoodPackets, IsRefusedPackets}
 use Rattle.xds_commands.specs.PlacedPackets.{IsPlacedWith, IsXdsRefusal}
 use Rattle.xds_commands.specs.XdsWords.{IsSoundXds, xds_framing}

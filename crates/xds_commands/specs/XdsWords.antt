@@ -8,13 +8,13 @@ use Rattle.cue_lists.specs.Listing.{Listing}
 use Rattle.frame_scheduler.specs.Planned.{Placement, share_in}
 use Rattle.line21_codes.specs.declared.channels.Chan.{Chan}
 use Rattle.line21_codes.specs.declared.channels.FieldNumber.TheVariants.{Two}
-use Rattle.programmes.specs.Framing.{Framing, packets_of, words_of}
+use Rattle.frame_carrier.specs.Framing.{Framing, packets_of, words_of}
 use Rattle.services_shown.specs.Delays.{AreDelaysSent}
-use Rattle.sound_frames.specs.Shares.{AreSharesKept}
-use Rattle.sound_frames.specs.Showing.{ShowsFrames}
-use Rattle.sound_frames.specs.Sound.{IsSoundFrames}
+use Rattle.services_shown.specs.Shares.{AreSharesKept}
+use Rattle.services_shown.specs.Showing.{ShowsFrames}
+use Rattle.services_shown.specs.Sound.{IsSoundFrames}
 use Rattle.words_files.specs.Received.{received_grids, received_pairs}
-use Rattle.xds_beside_captions.specs.XdsFrames.{xds_columns}
+use Rattle.xds_frames.specs.XdsFrames.{xds_columns}
 use Rattle.xds_commands.specs.PlacedPackets.{PlacedPackets}
 use Rattle.xds_packets.specs.Reading.{packets_within as packets_in}
 use Rattle.xds_packets.specs.Sending.{packets_left}

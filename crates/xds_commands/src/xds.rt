@@ -8,9 +8,8 @@ use crate::packet_list::read_packets;
 use crate::xds_of::XdsOf;
 use cc_base::{Sink, Source};
 use command_base::Status;
-use cue_list_commands::read_list;
-use programme_runs::{Makes, ReadsSide, run_beside};
-use programmes::{GatheredWords, Programme};
+use cue_list_commands::{Makes, ReadsSide, read_list, run_beside};
+use frame_carrier::{GatheredWords, Programme};
 use std::alloc::Global;
 use xds_frames::{XdsFrames, XdsPlanFault, plan_xds};
 

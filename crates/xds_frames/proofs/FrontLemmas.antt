@@ -8,8 +8,8 @@ use Rattle.frame_scheduler.specs.Planned.{Placement}
 use Rattle.frame_scheduler.specs.SlotLists.{slots_in_list}
 use Rattle.line21_codes.specs.declared.channels.Chan.TheVariants.{Cc3}
 use Rattle.line21_codes.specs.declared.codes.Code.{Code}
-use Rattle.xds_beside_captions.specs.FreeSlots.{frame_of_slot, free_in}
-use Rattle.xds_beside_captions.specs.XdsFrames.{HasXdsRoom, IsFirstWithoutXdsRoom}
+use Rattle.xds_frames.specs.FreeSlots.{frame_of_slot, free_in}
+use Rattle.xds_frames.specs.XdsFrames.{HasXdsRoom, IsFirstWithoutXdsRoom}
 use Rattle.xds_frames.specs.ListPackets.{OnePacketLacksRoom, RoomLacksNone}
 use Rattle.xds_packets.specs.Places.{AllStand, Follow, PlacedCode, StandFrom}
 use Rattle.xds_packets.specs.Sending.{Listed}

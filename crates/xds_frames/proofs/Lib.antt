@@ -1,3 +1,8 @@
+pub mod OutsideLemmas
+pub mod PacketLemmas
+pub mod BesideLemmas
+pub mod FreeLemmas
+pub mod XdsLemmas
 pub mod FrontLemmas
 pub mod ListPacketsLemmas
 pub mod LoadsLemmas

@@ -7,7 +7,7 @@ use Rattle.std.proofs.lemmas.List.{drop_all}
 use Rattle.cue_lists.specs.Channels.{cues_on, is_on}
 use Rattle.cue_lists.specs.declared.cue.Cue.{Cue}
 use Rattle.line21_codes.specs.declared.channels.Chan.TheVariants.{Cc3}
-use Rattle.xds_beside_captions.specs.FreeSlots.{is_loading}
+use Rattle.xds_frames.specs.FreeSlots.{is_loading}
 use Rattle.xds_frames.specs.Loads.{AreInOrder, AreLoadedInOrder, StandsAt, is_within, span_of}
 use Rattle.xds_frames.specs.declared.loads.Loads.{Loads}
 use Rattle.xds_frames.specs.declared.span.Span.{Span}

@@ -7,7 +7,7 @@ use Rattle.frame_scheduler.specs.Frames.{GivesFrom, frames_left}
 use Rattle.frame_scheduler.specs.Planned.{IsListPlaced, Placement, columns_of}
 use Rattle.frame_scheduler.specs.declared.frames.Plan.{Plan}
 use Rattle.line21_slots.specs.Cadences.{slot_frame, slot_from}
-use Rattle.xds_beside_captions.specs.XdsFrames.{HasXdsRoom}
+use Rattle.xds_frames.specs.XdsFrames.{HasXdsRoom}
 use Rattle.xds_frames.proofs.ListPacketsLemmas.{packets_laid, room_told}
 use Rattle.xds_frames.specs.ListPackets.{TellsXdsRoom, laying_of}
 use Rattle.xds_frames.specs.Packets.{HasPairs, IsLaying, Laying, free_at}

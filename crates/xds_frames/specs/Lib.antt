@@ -1,3 +1,8 @@
+pub mod Outside
+pub mod PacketTimeline
+pub mod Beside
+pub mod FreeSlots
+pub mod XdsFrames
 pub mod ListPackets
 pub mod Loads
 pub mod Packets

@@ -5,7 +5,7 @@ use Rattle.std.specs.List.{list_any}
 use Rattle.cue_lists.specs.Channels.{cues_on}
 use Rattle.cue_lists.specs.declared.cue.Cue.{Cue}
 use Rattle.line21_codes.specs.declared.channels.Chan.TheVariants.{Cc3}
-use Rattle.xds_beside_captions.specs.FreeSlots.{is_loading}
+use Rattle.xds_frames.specs.FreeSlots.{is_loading}
 use Rattle.xds_frames.specs.declared.loads.Loads.{Loads}
 use Rattle.xds_frames.specs.declared.span.Span.{Span}
 

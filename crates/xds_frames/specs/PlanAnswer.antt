@@ -5,10 +5,10 @@ use Rattle.cue_lists.specs.Listing.{Listing}
 use Rattle.frame_scheduler.specs.Frames.{GivesFrom, frames_left}
 use Rattle.frame_scheduler.specs.Planned.{IsFirstWithoutRoom, IsListPlaced, Placement}
 use Rattle.frame_scheduler.specs.declared.frames.Plan.{Plan}
-use Rattle.placements.specs.declared.planning.PlanFault.{PlanFault}
-use Rattle.placements.specs.declared.planning.PlanFault.TheVariants as plan
-use Rattle.programmes.specs.Overlays.{GivesOverlaid}
-use Rattle.xds_beside_captions.specs.XdsFrames.{HasXdsRoom, IsFirstWithoutXdsRoom, xds_columns}
+use Rattle.lanes.specs.declared.planning.PlanFault.{PlanFault}
+use Rattle.lanes.specs.declared.planning.PlanFault.TheVariants as plan
+use Rattle.frame_carrier.specs.Overlays.{GivesOverlaid}
+use Rattle.xds_frames.specs.XdsFrames.{HasXdsRoom, IsFirstWithoutXdsRoom, xds_columns}
 use Rattle.xds_frames.specs.Packets.{LaysPackets}
 use Rattle.xds_frames.specs.declared.fault.XdsPlanFault.{XdsPlanFault}
 use Rattle.xds_frames.specs.declared.fault.XdsPlanFault.TheVariants.{Memory, NoRoom, NoXdsRoom}

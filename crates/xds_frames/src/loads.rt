@@ -1,7 +1,7 @@
 ghost use Rattle.std.specs.Prelude.{◌≡◌, ◌≤◌, ℕ, IfOk, List};
 ghost use Rattle.cue_lists.specs.declared.cue.Cue.{Cue};
 ghost use Rattle.line21_codes.specs.declared.channels.Chan.TheVariants.{Cc3};
-ghost use Rattle.xds_beside_captions.specs.FreeSlots.{is_loading};
+ghost use Rattle.xds_frames.specs.FreeSlots.{is_loading};
 ghost use Rattle.xds_frames.specs.Loads.{AreLoadedInOrder, StandsAt};
 
 use crate::span::Span;

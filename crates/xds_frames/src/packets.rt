@@ -13,9 +13,9 @@ ghost use Rattle.xds_packets.specs.Sending.{Listed, writing_at};
 ghost use Rattle.xds_packets.specs.Sending.{unfinished as unfinished_in};
 
 use crate::loads::Loads;
+use frame_carrier::Overlay;
 use frame_scheduler::FrameBytes;
 use line21_codes::Pair;
-use programmes::Overlay;
 use xds_lists::XdsWriter;
 
 /// The packets of a list, whose pairs go into the free slots of field 2: those with the null pair, in frames in which no cue of CC3

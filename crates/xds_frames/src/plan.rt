@@ -1,6 +1,6 @@
 ghost use Rattle.std.specs.Prelude.{◌≡◌, MatchResult};
 ghost use Rattle.cue_lists.specs.Rules.{IsRuled};
-ghost use Rattle.programmes.specs.OverlaidFrames.{frames_under, overlay_of};
+ghost use Rattle.frame_carrier.specs.OverlaidFrames.{frames_under, overlay_of};
 ghost use Rattle.xds_frames.specs.PlanAnswer.{IsPlanned, IsXdsPlanFault, fault_of_plan};
 
 use crate::fault::XdsPlanFault;
@@ -8,9 +8,9 @@ use crate::list_packets::list_packets;
 use crate::packets::Packets;
 use crate::room::first_without_room;
 use cue_lists::CueList;
+use frame_carrier::Overlaid;
 use frame_scheduler::{Plan, plan};
-use placements::PlanFault;
-use programmes::Overlaid;
+use lanes::PlanFault;
 use std::alloc::Global;
 use xds_lists::XdsList;
 

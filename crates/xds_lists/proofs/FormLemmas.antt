@@ -4,11 +4,11 @@ use Rattle.std.specs.Prelude.{All}
 use Rattle.std.specs.List.{list_all}
 use Rattle.std.proofs.lemmas.List.Elements.{All-cons, All-head, All-nil, All-tail}
 use Rattle.std.proofs.lemmas.Slice.Eq.{bytes_eq-Decides}
-use Rattle.record_files.proofs.FieldFacts.{field_is, fields_listed}
-use Rattle.record_files.proofs.Goodness.{good_of}
-use Rattle.record_files.proofs.NumberFacts.{number_good, number_within-decimal}
-use Rattle.record_files.proofs.Passing.{both_of}
-use Rattle.record_files.specs.Records.{Record, field}
+use Rattle.cue_form.proofs.FieldFacts.{field_is, fields_listed}
+use Rattle.cue_form.proofs.RecordGoodness.{good_of}
+use Rattle.cue_form.proofs.RecordNumberFacts.{number_good, number_within-decimal}
+use Rattle.cue_form.proofs.Passing.{both_of}
+use Rattle.cue_form.specs.Records.{Record, field}
 use Rattle.xds_lists.specs.Form.{AreText, IsListed, IsTextByte, is_text, is_text_byte, last_frame, packet_judgements, packet_record}
 use Rattle.xds_lists.specs.Reading.{listed_of, packet_of_fields}
 use Rattle.xds_packets.specs.Sending.{Listed}

@@ -5,10 +5,10 @@ use Rattle.std.proofs.lemmas.List.{append-nil}
 use Rattle.std.proofs.lemmas.List.Elements.{All-cons, All-head, All-nil, All-tail}
 use Rattle.cc_base.specs.declared.why.Why.{Why}
 use Rattle.cc_base.specs.declared.why.Why.TheVariants as why
-use Rattle.record_files.specs.Judgements.{first_offence, unless}
-use Rattle.record_files.specs.Records.{Record}
-use Rattle.record_files.specs.declared.offence.Offence.{Offence}
-use Rattle.record_files.specs.declared.offence.Offence.TheVariants as offence
+use Rattle.cue_form.specs.RecordJudgements.{first_offence, unless}
+use Rattle.cue_form.specs.Records.{Record}
+use Rattle.cue_form.specs.declared.offence.Offence.{Offence}
+use Rattle.cue_form.specs.declared.offence.Offence.TheVariants as offence
 use Rattle.xds_lists.proofs.FormLemmas.{record_passed, record_read}
 use Rattle.xds_lists.specs.FirstFault.{IsFirstPacketFault, IsGood}
 use Rattle.xds_lists.specs.Form.{IsListed, SpellPackets, packet_judgements, packet_record}

@@ -2,9 +2,9 @@
 -- The first fault of records that spell no list of packets: each record is judged by itself.
 use Rattle.std.specs.Prelude.{◌≡◌, ⊤, ℕ, ◌+◌, List, ◌∷◌, ◌++◌, length, All, Some, None}
 use Rattle.cc_base.specs.declared.why.Why.{Why}
-use Rattle.record_files.specs.Judgements.{first_offence}
-use Rattle.record_files.specs.Records.{Record}
-use Rattle.record_files.specs.declared.offence.Offence.TheVariants as offence
+use Rattle.cue_form.specs.RecordJudgements.{first_offence}
+use Rattle.cue_form.specs.Records.{Record}
+use Rattle.cue_form.specs.declared.offence.Offence.TheVariants as offence
 use Rattle.xds_lists.specs.Form.{packet_judgements}
 use Rattle.xds_lists.specs.declared.fault.XdsFault.{XdsFault}
 use Rattle.xds_lists.specs.declared.fault.XdsFault.TheVariants as malformed

@@ -3,8 +3,8 @@
 use Rattle.std.specs.Prelude.{◌≡◌, ℕ, ◌≤◌, ◌&&◌, nat_le, if◌then◌else◌, Bool, List, [], ◌∷◌, length, map, All, codes, decimal, Option, Some, None, bytes_eq}
 use Rattle.std.specs.List.{list_all}
 use Rattle.cc_base.specs.declared.why.Why.TheVariants as why
-use Rattle.record_files.specs.Judgements.{Judgement, count_judgement, judge, within}
-use Rattle.record_files.specs.Records.{Field, Record, field}
+use Rattle.cue_form.specs.RecordJudgements.{Judgement, count_judgement, judge, within}
+use Rattle.cue_form.specs.Records.{Field, Record, field}
 use Rattle.xds_packets.specs.PacketCodes.{IsXdsPacket}
 use Rattle.xds_packets.specs.Sending.{Listed}
 

@@ -1,10 +1,10 @@
 -- Between crates: the program's answer stands on none of these definitions.
 -- Reading a list of packets record by record: the packets that they spell, or the first record that offends.
 use Rattle.std.specs.Prelude.{◌≡◌, ⊤, ℕ, ◌+◌, List, [], ◌∷◌, ◌++◌, Result, Ok, Err}
-use Rattle.record_files.specs.Judgements.{judged_value, number}
-use Rattle.record_files.specs.Records.{Record, field}
-use Rattle.record_files.specs.declared.offence.Offence.{Offence}
-use Rattle.record_files.specs.declared.offence.Offence.TheVariants as offence
+use Rattle.cue_form.specs.RecordJudgements.{judged_value, number}
+use Rattle.cue_form.specs.Records.{Record, field}
+use Rattle.cue_form.specs.declared.offence.Offence.{Offence}
+use Rattle.cue_form.specs.declared.offence.Offence.TheVariants as offence
 use Rattle.xds_lists.specs.Form.{last_frame, packet_judgements}
 use Rattle.xds_lists.specs.declared.fault.XdsFault.{XdsFault}
 use Rattle.xds_lists.specs.declared.fault.XdsFault.TheVariants as fault

@@ -2,8 +2,8 @@
 -- A packet of a list, and what is read of a record, as the definitions see them.
 use Rattle.std.specs.Prelude.{ℕ, Result, Ok, Err}
 use Rattle.cc_base.specs.declared.why.Why.TheVariants as why
-use Rattle.record_files.specs.declared.offence.Offence.{Offence}
-use Rattle.record_files.specs.declared.offence.Offence.TheVariants as offence
+use Rattle.cue_form.specs.declared.offence.Offence.{Offence}
+use Rattle.cue_form.specs.declared.offence.Offence.TheVariants as offence
 use Rattle.xds_lists.specs.declared.listed.XdsListed.{XdsListed}
 use Rattle.xds_packets.specs.Sending.{Listed}
 

@@ -1,7 +1,7 @@
 //! What holds of every list of packets, whatever its records.
 
 ghost use Rattle.std.specs.Prelude.{◌≡◌, Err, List, Ok};
-ghost use Rattle.record_files.specs.Records.{Record};
+ghost use Rattle.cue_form.specs.Records.{Record};
 ghost use Rattle.xds_lists.specs.FirstFault.{IsFirstPacketFault};
 ghost use Rattle.xds_lists.specs.Form.{SpellPackets};
 ghost use Rattle.xds_lists.specs.Reading.{Answers, read_packets};

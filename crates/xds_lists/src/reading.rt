@@ -1,6 +1,6 @@
 ghost use Rattle.std.specs.Prelude.{◌≤◌, IfErr, IfOk, length};
 ghost use Rattle.cc_base.specs.Streams.{whole_limit};
-ghost use Rattle.record_files.specs.Records.{records_of};
+ghost use Rattle.cue_form.specs.Records.{records_of};
 ghost use Rattle.xds_lists.specs.FirstFault.{FaultsFirst};
 ghost use Rattle.xds_lists.specs.Form.{SpellPackets};
 ghost use Rattle.xds_lists.specs.Reading.{Answers, read_packets};

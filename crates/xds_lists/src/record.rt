@@ -7,7 +7,7 @@ ghost use Rattle.xds_lists.specs.Seen.{listed_result};
 
 use crate::listed::XdsListed;
 use csv::ByteRecord;
-use record_files::{count_place, field, is_word, read_within};
+use cue_form::{count_place, field, is_word, read_within};
 use xds_packets::{XdsPacket, XdsText};
 
 // The value of a field, which offends where it has none.

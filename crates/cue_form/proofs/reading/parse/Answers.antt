@@ -3,9 +3,9 @@ use Rattle.csv.specs.Reading.{default_config, strip_bom}
 use Rattle.csv.specs.Records.{fields_of}
 use Rattle.cue_form.specs.Answers.{Answers}
 use Rattle.cue_form.specs.Reading.{read_list}
-use Rattle.record_files.specs.Records.{records_of}
+use Rattle.cue_form.specs.Records.{records_of}
 use Rattle.cue_form.proofs.Faults.{answered_fault, refused, says_fault, says_spelled}
-use Rattle.record_files.proofs.Rows.{bom_shorter, read_end, read_row}
+use Rattle.cue_form.proofs.Rows.{bom_shorter, read_end, read_row}
 use Rattle.cue_form.proofs.Steps.{IsBegun-next, IsBegun-nothing}
 use Rattle.cue_form.proofs.reading.parse.Goals as goal
 

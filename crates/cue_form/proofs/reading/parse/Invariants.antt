@@ -4,7 +4,7 @@ use Rattle.csv.specs.Reading.{Ready, default_config, records_from, source_of, st
 use Rattle.csv.specs.declared.reader.Trim.TheVariants as trim
 use Rattle.cue_form.specs.Begun.{IsBegun}
 use Rattle.cue_form.specs.Reading.{read_from, read_list}
-use Rattle.record_files.proofs.Rows.{Enough}
+use Rattle.cue_form.proofs.Rows.{Enough}
 use Rattle.cue_form.proofs.reading.parse.Given as goal
 
 abbrev pub invariant-rows : goal.invariant-rows

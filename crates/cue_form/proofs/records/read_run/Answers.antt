@@ -4,7 +4,7 @@ use Rattle.csv.specs.Records.{fields_of}
 use Rattle.cue_form.specs.Answers.{AnswersOffence}
 use Rattle.cue_form.specs.Fields.{number_within}
 use Rattle.cue_form.specs.Form.{cue_columns, first_row, last_row, run_pen_field, suits_row}
-use Rattle.record_files.specs.Records.{field}
+use Rattle.cue_form.specs.Records.{field}
 use Rattle.cue_form.specs.Texts.{run_text_of}
 use Rattle.cue_form.proofs.TextRun.{run_refused}
 use Rattle.cue_form.proofs.records.read_run.Goals as goal

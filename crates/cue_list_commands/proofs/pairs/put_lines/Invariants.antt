@@ -1,5 +1,5 @@
 use Rattle.std.proofs.Common.{◌≡◌}
-use Rattle.programmes.specs.Framing.{Framing, HasFraming}
+use Rattle.frame_carrier.specs.Framing.{Framing, HasFraming}
 use Rattle.text_output.specs.Gathered.{held_of}
 use Rattle.cue_list_commands.specs.Output.{lines_of}
 use Rattle.cue_list_commands.proofs.GatheredLines.{LinesOnTheWay}

@@ -1,4 +1,4 @@
-use Rattle.authored_grids.proofs.WindowsFound.{each_cue_shown}
+use Rattle.cue_lists.proofs.WindowsFound.{each_cue_shown}
 use Rattle.cue_lists.proofs.OneAtATime.{one_at_a_time}
 use Rattle.cue_lists.proofs.laws.a_window_shows_one_cue_at_a_time.Goals as goal
 

@@ -1,5 +1,5 @@
-use Rattle.field_lanes.specs.LaneEvents.{event_at}
-use Rattle.resumed_lanes.specs.FieldSlots.{first_slots}
+use Rattle.lanes.specs.LaneEvents.{event_at}
+use Rattle.dual_fields.specs.FieldSlots.{first_slots}
 use Rattle.dual_plans.proofs.PlacesLemmas.{fault_result, filled_result}
 use Rattle.dual_plans.proofs.places.first_places.Goals as goal
 

@@ -1,7 +1,7 @@
-use Rattle.field_lanes.specs.LaneEvents.{event_at}
-use Rattle.resumed_lanes.specs.FieldSlots.{first_slots, second_slots}
-use Rattle.resumed_lanes.specs.Filled.{resumes_at, slots_at}
-use Rattle.resumed_lanes.specs.Spans.{in_spans}
+use Rattle.lanes.specs.LaneEvents.{event_at}
+use Rattle.dual_fields.specs.FieldSlots.{first_slots, second_slots}
+use Rattle.dual_fields.specs.Filled.{resumes_at, slots_at}
+use Rattle.dual_fields.specs.Spans.{in_spans}
 use Rattle.dual_plans.proofs.PlacesLemmas.{fault_result, filled_result, go_on}
 use Rattle.dual_plans.proofs.places.second_places.Goals as goal
 

@@ -1,7 +1,7 @@
 use Rattle.std.proofs.Common.{◌∙◌, ap, sym}
 use Rattle.dtvcc_windows.specs.Objects.{window_of}
 use Rattle.dtvcc_windows.specs.Showing.{shown}
-use Rattle.window_texts.specs.Differences.{differs}
+use Rattle.grid_print.specs.Differences.{differs}
 use Rattle.grid_print.proofs.kept.keep_window.Goals as goal
 
 pub returns-in-None-clause-told : goal.returns-in-None-clause-told

@@ -2,9 +2,9 @@ use Rattle.std.proofs.Common.{◌≡◌, ◌+◌, ◌-◌, ◌∙◌, length, ap
 use Rattle.std.proofs.lemmas.List.{length-append}
 use Rattle.std.specs.List.{flat_map, range_with_len}
 use Rattle.line21_screen.specs.Objects.{grid_in}
-use Rattle.cell_runs.specs.Runs.{Run, row_runs}
-use Rattle.cell_runs.specs.Writing.{in_styles}
-use Rattle.cell_runs.proofs.RowLemmas.{one_row_more}
+use Rattle.grid_print.specs.CellRuns.{Run, row_runs}
+use Rattle.grid_print.specs.Writing.{in_styles}
+use Rattle.grid_print.proofs.CellRowLemmas.{one_row_more}
 use Rattle.line21_codes.specs.declared.styles.Cell.{Cell}
 use Rattle.grid_print.specs.Runs.{runs_in}
 use Rattle.grid_print.proofs.RowLemmas.{nothing_before, nothing_behind, runs_by_rows}

@@ -1,6 +1,6 @@
 use Rattle.std.proofs.Common.{append_assoc, append-nil}
 use Rattle.text_output.proofs.PageLemmas.{some_then, written_same}
-use Rattle.window_texts.specs.WindowTexts.{service_text}
+use Rattle.grid_print.specs.WindowTexts.{service_text}
 use Rattle.grid_print.proofs.service.write_service.Goals as goal
 
 pub returns-clause-some : goal.returns-clause-some

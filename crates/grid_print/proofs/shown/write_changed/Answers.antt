@@ -3,7 +3,7 @@ use Rattle.std.proofs.lemmas.Grind.{common_steps}
 use Rattle.std.proofs.lemmas.Option.{slice_get_read}
 use Rattle.std.specs.List.{flat_map, range_with_len}
 use Rattle.text_output.proofs.PageLemmas.{some_none, some_then, writes_none, writes_same, writes_then}
-use Rattle.window_texts.specs.WindowTexts.{service_text}
+use Rattle.grid_print.specs.WindowTexts.{service_text}
 use Rattle.grid_print.specs.Kept.{changed_at, changed_in, changed_places}
 use Rattle.grid_print.proofs.NumberLemmas.{texts_more}
 use Rattle.grid_print.proofs.shown.write_changed.Goals as goal

@@ -3,7 +3,7 @@ use Rattle.std.specs.List.{flat_map, range_with_len}
 use Rattle.std.specs.Prelude.{ℕ, Option}
 use Rattle.dtvcc_windows.specs.Showing.{ShownWindow}
 use Rattle.text_output.specs.Pages.{Writes, WritesSome, page}
-use Rattle.window_texts.specs.WindowTexts.{service_text}
+use Rattle.grid_print.specs.WindowTexts.{service_text}
 use Rattle.grid_print.specs.Kept.{changed_at}
 use Rattle.grid_print.proofs.shown.write_changed.Given as goal
 

@@ -1,6 +1,6 @@
 use Rattle.std.proofs.Common.{◌∙◌, sym}
 use Rattle.text_output.proofs.PageLemmas.{some_none, writes_none, writes_same}
-use Rattle.window_texts.specs.WindowTexts.{service_text}
+use Rattle.grid_print.specs.WindowTexts.{service_text}
 use Rattle.grid_print.proofs.ScreenLemmas.{none_if, text_if}
 use Rattle.grid_print.proofs.shown.write_if_changed.Goals as goal
 

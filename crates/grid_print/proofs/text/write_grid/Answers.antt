@@ -5,9 +5,9 @@ use Rattle.line21_screen.specs.Grid.{rows}
 use Rattle.line21_screen.specs.Objects.{grid_in}
 use Rattle.text_output.proofs.PageLemmas.{written_same}
 use Rattle.grid_print.specs.GridTexts.{run_line}
-use Rattle.cell_runs.specs.Runs.{Run, row_runs}
-use Rattle.cell_runs.specs.Writing.{in_styles}
-use Rattle.cell_runs.proofs.RowLemmas.{flat_map_twice, one_row_more}
+use Rattle.grid_print.specs.CellRuns.{Run, row_runs}
+use Rattle.grid_print.specs.Writing.{in_styles}
+use Rattle.grid_print.proofs.CellRowLemmas.{flat_map_twice, one_row_more}
 use Rattle.line21_codes.specs.declared.styles.Cell.{Cell}
 use Rattle.grid_print.specs.Runs.{runs_in}
 use Rattle.grid_print.proofs.RowLemmas.{nothing_before, nothing_behind, runs_by_rows}

@@ -4,7 +4,7 @@ use Rattle.cc_base.specs.Rate.{rate_code}
 use Rattle.findings.specs.declared.finding.Finding.{Finding}
 use Rattle.findings.specs.declared.finding.Kind45.TheVariants as kind
 use Rattle.packet_inserter.specs.Insertion.{IsInserted}
-use Rattle.inserted_words.specs.Captions.{captions_of}
+use Rattle.insert_commands.specs.Captions.{captions_of}
 use Rattle.insert_commands.specs.ListCaptions.{GivesCaptions}
 use Rattle.insert_commands.proofs.StepLemmas.{same_rate}
 use Rattle.insert_commands.proofs.inserting.replace.Goals as goal

@@ -1,10 +1,10 @@
 use Rattle.std.proofs.Common.{sym, subst}
 use Rattle.dtvcc_author.specs.Captions.{service_captions}
 use Rattle.dtvcc_author.specs.Kept.{AreKept}
-use Rattle.placements.specs.LaneRoom.{AreInCueOrder}
-use Rattle.service_lanes.specs.ServiceChunks.{service_chunk_cue}
-use Rattle.service_lanes.proofs.CaptionsKept.{captions_kept}
-use Rattle.service_lanes.proofs.ChunkOrderLemmas.{chunks_in_order}
+use Rattle.lanes.specs.LaneRoom.{AreInCueOrder}
+use Rattle.lanes.specs.ServiceChunks.{service_chunk_cue}
+use Rattle.lanes.proofs.CaptionsKept.{captions_kept}
+use Rattle.lanes.proofs.ChunkOrderLemmas.{chunks_in_order}
 use Rattle.list_tests.proofs.services.lane_of.Goals as goal
 
 pub place-requires-clause-kept : goal.place-requires-clause-kept

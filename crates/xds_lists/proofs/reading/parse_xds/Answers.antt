@@ -2,8 +2,8 @@ use Rattle.std.proofs.Common.{◌≡◌, Bor, List, ℕ, ◌≤◌, ◌∙◌, �
 use Rattle.cc_base.specs.declared.why.Why.TheVariants as why
 use Rattle.csv.specs.Reading.{default_config, strip_bom}
 use Rattle.csv.specs.Records.{fields_of}
-use Rattle.record_files.specs.Records.{records_of}
-use Rattle.record_files.proofs.Rows.{bom_shorter, read_end, read_row}
+use Rattle.cue_form.specs.Records.{records_of}
+use Rattle.cue_form.proofs.Rows.{bom_shorter, read_end, read_row}
 use Rattle.xds_lists.specs.Reading.{read_from, read_packets}
 use Rattle.xds_lists.specs.Seen.{listed_seen}
 use Rattle.xds_lists.proofs.ReadLemmas.{fault_of_read, list_of_read, refused, taken}

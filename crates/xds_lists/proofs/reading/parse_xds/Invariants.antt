@@ -2,8 +2,8 @@
 use Rattle.std.proofs.Common.{◌≡◌, ◌+◌, ◌-◌, ℕ, List, Some, length}
 use Rattle.csv.specs.Reading.{Ready, default_config, records_from, source_of, strip_bom}
 use Rattle.csv.specs.declared.reader.Trim.TheVariants as trim
-use Rattle.record_files.specs.Records.{records_of}
-use Rattle.record_files.proofs.Rows.{Enough}
+use Rattle.cue_form.specs.Records.{records_of}
+use Rattle.cue_form.proofs.Rows.{Enough}
 use Rattle.xds_lists.specs.Reading.{read_from, read_packets}
 use Rattle.xds_lists.proofs.reading.parse_xds.Given as goal
 

@@ -1,5 +1,5 @@
 use Rattle.std.proofs.Common.{refl, subst, sym}
-use Rattle.authored_places.specs.WindowTurns.{AreAllInTurn}
+use Rattle.cc_verifier.specs.WindowTurns.{AreAllInTurn}
 use Rattle.cc_verifier.proofs.ScreenLemmas.{channels_before, channels_know, services_before, services_know, services_stand}
 use Rattle.cc_verifier.proofs.verifier.Verifier.advance.Goals as goal
 

@@ -1,6 +1,6 @@
 use Rattle.std.proofs.Common.{◌++◌, ◌∷◌, [], subst, sym}
 use Rattle.std.specs.Prelude.{None, Some}
-use Rattle.authored_places.specs.WindowTurns.{AreAllInTurn}
+use Rattle.cc_verifier.specs.WindowTurns.{AreAllInTurn}
 use Rattle.cc_receiver.specs.Receivers.{displayed_grid}
 use Rattle.cc_receiver.specs.ReceivedServices.{received_windows}
 use Rattle.words_files.specs.Received.{received_grids}

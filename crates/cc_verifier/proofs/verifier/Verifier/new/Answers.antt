@@ -1,9 +1,9 @@
 use Rattle.std.proofs.Common.{List, [], refl, subst, sym}
 use Rattle.cc_receiver.specs.ReceivedServices.{received_windows}
 use Rattle.cue_types.specs.declared.cue.Cue.{Cue}
-use Rattle.screen_checks.specs.Channels.{AreReady, AreTimedAll, KnowAll}
-use Rattle.screen_checks.specs.Services.{KnowServices, StandAt}
-use Rattle.authored_places.proofs.WindowTurnLemmas.{ruled_in_turn}
+use Rattle.cc_verifier.specs.Channels.{AreReady, AreTimedAll, KnowAll}
+use Rattle.cc_verifier.specs.Services.{KnowServices, StandAt}
+use Rattle.cc_verifier.proofs.WindowTurnLemmas.{ruled_in_turn}
 use Rattle.words_files.proofs.FramesOfLemmas.{file_frames}
 use Rattle.words_files.specs.Received.{received_grids}
 use Rattle.services_files.specs.CaptionChannel.{caption_channel}

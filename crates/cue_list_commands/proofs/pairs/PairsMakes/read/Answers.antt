@@ -2,7 +2,7 @@ use Rattle.cue_list_commands.specs.Accepted.{IsRefused}
 use Rattle.cue_list_commands.specs.Output.{IsPlacedAs, IsSoundPairs, framing_of}
 use Rattle.cue_list_commands.proofs.Outputs.{sound_pairs}
 use Rattle.frame_scheduler.specs.Frames.{GivesFrom, frames_left}
-use Rattle.programme_runs.proofs.MadeLemmas.{sound_read}
+use Rattle.cue_list_commands.proofs.MadeLemmas.{sound_read}
 use Rattle.cue_list_commands.proofs.pairs.PairsMakes.read.Goals as goal
 
 pub returns : goal.returns

@@ -5,7 +5,7 @@ use Rattle.frame_carrier.specs.FrameTriplets.{frame_triplets}
 use Rattle.frame_carrier.specs.declared.carrier.Carrier.{Carrier}
 use Rattle.frame_scheduler.specs.Columns.{Columns}
 use Rattle.frame_scheduler.specs.declared.frames.FrameBytes.{FrameBytes}
-use Rattle.inserted_words.specs.Captions.{padded}
+use Rattle.insert_commands.specs.Captions.{padded}
 use Rattle.insert_commands.proofs.captions.Captions.next.Goals as goal
 
 -- a carrier that has carried a frame of columns is at the next one

@@ -1,4 +1,4 @@
-use Rattle.packet_reading.proofs.WayLemmas.{none_read}
+use Rattle.words_reading.proofs.PacketWayLemmas.{none_read}
 use Rattle.insert_commands.proofs.StepLemmas.{nothing_judged}
 use Rattle.insert_commands.proofs.inserting.Inserting.new.Goals as goal
 

@@ -4,8 +4,8 @@ use Rattle.cc_receiver.proofs.FeedLemmas.{bytes_fit}
 use Rattle.words_files.proofs.FramesOfLemmas.{file_frames}
 use Rattle.services_files.specs.CaptionChannel.{caption_channel}
 use Rattle.text_output.specs.Gathered.{Gathers, held_of}
-use Rattle.packet_reading.specs.OpenPackets.{open_bytes}
-use Rattle.packet_reading.proofs.WayLemmas.{ends_caption, read_caption, read_foreign, read_still}
+use Rattle.words_reading.specs.OpenPackets.{open_bytes}
+use Rattle.words_reading.proofs.PacketWayLemmas.{ends_caption, read_caption, read_foreign, read_still}
 use Rattle.insert_commands.proofs.StepLemmas.{halted, has_frame, judged_caption, judged_foreign, judged_still, may_follow, word_refused, words_unwritten}
 use Rattle.insert_commands.proofs.inserting.InsertingJudge.step.Goals as goal
 

@@ -4,7 +4,7 @@ use Rattle.cc_receiver.specs.ReceivedServices.{received_windows}
 use Rattle.cc_receiver.proofs.TakenLemmas.{frames_count}
 use Rattle.cdp_packets.specs.PacketTriplets.{packet_triplets}
 use Rattle.cdp_packets.specs.Packets.{Frame}
-use Rattle.halved_frames.specs.Conversion.{conversion, first_half_of, second_half_of}
+use Rattle.rate_convert.specs.Conversion.{conversion, first_half_of, second_half_of}
 use Rattle.words_files.specs.CarriedWords.{carried_words, triplets_packet}
 use Rattle.rate_convert.specs.ServedFrames.{AreServed}
 use Rattle.rate_convert.proofs.ConversionLemmas.{conversion_more}

@@ -1,5 +1,0 @@
-use Rattle.authored_grids.proofs.WindowsFound.{each_cue_shown}
-use Rattle.authored_grids.proofs.laws.a_service_shows_the_windows_of_its_cues.Goals as goal
-
-pub returns : goal.returns
-returns c = each_cue_shown

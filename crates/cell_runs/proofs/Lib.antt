@@ -1,5 +1,0 @@
-pub mod AlikeLemmas
-pub mod FrontLemmas
-pub mod RowLemmas
-pub mod RunLemmas
-pub mod RunsOfLemmas

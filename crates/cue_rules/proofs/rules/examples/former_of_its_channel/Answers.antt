@@ -1,7 +1,0 @@
-use Rattle.std.proofs.Common.{[], ◌∷◌, refl}
-use Rattle.cue_rules.specs.Rules.{verdicts}
-use Rattle.cue_rules.proofs.rules.examples.former_of_its_channel.Goals as goal
-
-pub returns : goal.returns
-unfolding verdicts
-returns c = record { earlier = _ ∷ _ ∷ []; cue = _; later = []; split = refl; kept = (refl, (refl, tt)); broken = refl }

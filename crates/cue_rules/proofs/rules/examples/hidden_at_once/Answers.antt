@@ -1,7 +1,0 @@
-use Rattle.std.proofs.Common.{[], refl}
-use Rattle.cue_rules.specs.Rules.{verdicts}
-use Rattle.cue_rules.proofs.rules.examples.hidden_at_once.Goals as goal
-
-pub returns : goal.returns
-unfolding verdicts
-returns c = record { earlier = []; cue = _; later = []; split = refl; kept = tt; broken = refl }

@@ -1,5 +1,0 @@
-use Rattle.dtvcc_shown.proofs.FrameLemmas.{buffer_keeps}
-use Rattle.dtvcc_shown.proofs.laws.law_of_the_buffer.Goals as goal
-
-pub returns : goal.returns
-returns c = λ lane sound frame. buffer_keeps lane sound frame

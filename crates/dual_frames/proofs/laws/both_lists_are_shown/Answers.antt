@@ -1,5 +1,0 @@
-use Rattle.dual_frames.proofs.DualShownLemmas.{both_shown}
-use Rattle.dual_frames.proofs.laws.both_lists_are_shown.Goals as goal
-
-pub returns : goal.returns
-returns c = both_shown

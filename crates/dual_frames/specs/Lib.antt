@@ -1,3 +1,0 @@
-pub mod DualShown
-pub mod DualBlocks
-pub mod DualPairs

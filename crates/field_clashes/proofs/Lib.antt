@@ -1,3 +1,0 @@
-pub mod CueEventLemmas
-pub mod ClashLemmas
-pub mod MeetingLemmas

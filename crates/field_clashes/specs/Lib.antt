@@ -1,2 +1,0 @@
-pub mod CueEvents
-pub mod Clashes

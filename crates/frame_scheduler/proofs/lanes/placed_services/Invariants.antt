@@ -1,5 +1,0 @@
-use Rattle.frame_scheduler.specs.ServicePlans.{AreServices}
-use Rattle.frame_scheduler.proofs.lanes.placed_services.Given as goal
-
-abbrev pub invariant-loop-service : goal.invariant-loop-service
-invariant-loop-service l = AreServices l.list l.service l.services

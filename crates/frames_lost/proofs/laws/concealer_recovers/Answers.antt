@@ -1,5 +1,0 @@
-use Rattle.frames_lost.proofs.ConcealerLemmas.{concealer_recovered}
-use Rattle.frames_lost.proofs.laws.concealer_recovers.Goals as goal
-
-pub returns : goal.returns
-returns c = concealer_recovered

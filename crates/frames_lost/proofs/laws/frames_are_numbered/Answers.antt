@@ -1,8 +1,0 @@
-use Rattle.frames_lost.proofs.NumberLemmas.{frames_numbered, missing_counted}
-use Rattle.frames_lost.proofs.laws.frames_are_numbered.Goals as goal
-
-pub returns-clause-numbers : goal.returns-clause-numbers
-returns-clause-numbers c = frames_numbered
-
-pub returns-clause-missing : goal.returns-clause-missing
-returns-clause-missing c = missing_counted

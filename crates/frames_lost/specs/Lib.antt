@@ -1,3 +1,0 @@
-pub mod Delivered
-pub mod Recovered
-pub mod Numbers

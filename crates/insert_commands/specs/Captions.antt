@@ -1,0 +1,17 @@
+-- Believed: the program's answer stands on these definitions.
+-- The captions of a programme, frame by frame: those that it carries, and from its end on those of a frame without captions.
+use Rattle.std.specs.Prelude.{ℕ, nat_lt, if◌then◌else◌, List}
+use Rattle.cc_data.specs.declared.triplet.Triplet.{Triplet}
+use Rattle.frame_carrier.specs.Carrying.{channel_packet_of}
+use Rattle.frame_carrier.specs.FrameTriplets.{frame_triplets}
+use Rattle.frame_scheduler.specs.Columns.{Columns}
+use Rattle.frame_scheduler.specs.End.{silent_frame}
+use Rattle.frame_carrier.specs.Framing.{Framing}
+
+-- what every frame carries: those from the programme's end on are without captions
+abbrev pub padded : Framing → Columns
+padded list frame = if nat_lt frame list.count then list.columns frame else silent_frame list.rate frame
+
+-- the triplets of a frame
+abbrev pub captions_of : Framing → ℕ → List Triplet
+captions_of list frame = frame_triplets list.rate (padded list frame) (channel_packet_of (padded list) frame)

@@ -1,4 +1,0 @@
-pub mod FileLemmas
-pub mod PaddedLemmas
-pub mod AlikeLemmas
-pub mod SoundLemmas

@@ -1,2 +1,0 @@
-pub mod Loss
-pub mod Examples

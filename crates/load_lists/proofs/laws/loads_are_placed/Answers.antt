@@ -1,5 +1,0 @@
-use Rattle.load_lists.proofs.LoadRoomLemmas.{list_placed}
-use Rattle.load_lists.proofs.laws.loads_are_placed.Goals as goal
-
-pub returns : goal.returns
-returns c = list_placed

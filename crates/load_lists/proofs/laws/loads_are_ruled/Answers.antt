@@ -1,5 +1,0 @@
-use Rattle.load_lists.proofs.RuledLemmas.{list_ruled}
-use Rattle.load_lists.proofs.laws.loads_are_ruled.Goals as goal
-
-pub returns : goal.returns
-returns c = list_ruled

@@ -1,2 +1,0 @@
-pub mod LoadList
-pub mod LoadLaws

@@ -1,0 +1,17 @@
+pub mod HeardLemmas
+pub mod StepLemmas
+pub mod IdleLemmas
+pub mod BegunLemmas
+pub mod ClosingLemmas
+pub mod FoundLemmas
+pub mod ResyncLemmas
+pub mod ChannelLossLemmas
+pub mod ResetLemmas
+pub mod WindowLossLemmas
+pub mod LastLemmas
+pub mod PairLemmas
+pub mod DeliveredLemmas
+pub mod WordsLemmas
+pub mod FrameLossLemmas
+pub mod ConcealerLemmas
+pub mod NumberLemmas

@@ -1,0 +1,38 @@
+//! Laws of the definitions: functions without a body, whose contract is the law.
+
+ghost use Rattle.lost.specs.Delivered.{GreatestIsLastLost, LastLostIsFound};
+ghost use Rattle.lost.specs.Numbers.{FramesAreNumbered, MissingAreCounted};
+ghost use Rattle.lost.specs.Recovered.{ConcealerRecovers, DeliveredAreConcealed, LossIsRecovered};
+
+/// Where any frame is lost before one that came, there is a last one that is: the greatest frame below it that didn't come.
+pub fn last_lost_is_found()
+    ensures found { LastLostIsFound }
+    ensures greatest { GreatestIsLastLost }
+{}
+
+/// The words of the frames of a placed list that came are a words file whose caption channel is whole, whichever frames are lost: no
+/// reader refuses them. A concealing receiver that was fed them, in any pieces, conceals just the packets that came.
+pub fn delivered_are_concealed()
+    ensures { DeliveredAreConcealed }
+{}
+
+/// Of a placed list that is in form and keeps the rules, at any rate, let any frames be lost, but fewer than 65,536 in a row: at each
+/// frame that comes a concealing receiver shows the authored grids of CC1 and CC3, where the frame is settled for the channel, blank
+/// grids on CC2 and CC4, and in each service the authored windows, where no frame was lost before or a cue that resynchronises the
+/// channel, or the service, behind the last lost frame has its SHOW by then. Between a loss and that SHOW nothing is promised.
+pub fn loss_is_recovered()
+    ensures { LossIsRecovered }
+{}
+
+/// The same of the program's receiver: once a `Concealer` was fed the words of the frames that came, its `cell` answers the authored
+/// cells, and its `window` the authored windows.
+pub fn concealer_recovers()
+    ensures { ConcealerRecovers }
+{}
+
+/// Of the frames of a placed list that came, the first below 65,536, a concealing receiver tells the last by its own number, and that so
+/// many are missing before it as lie between it and the one that came before.
+pub fn frames_are_numbered()
+    ensures numbers { FramesAreNumbered }
+    ensures missing { MissingAreCounted }
+{}

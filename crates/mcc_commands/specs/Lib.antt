@@ -1,0 +1,15 @@
+pub mod Placing
+pub mod Exported
+pub mod ExportMcc
+pub mod ExportSteps
+pub mod ExportVerdict
+pub mod Offences
+pub mod Imported
+pub mod ImportMcc
+pub mod Words
+pub mod Importing
+pub mod Stops
+pub mod Imports
+pub mod ImportVerdict
+pub mod Standing
+pub mod RoundTrip

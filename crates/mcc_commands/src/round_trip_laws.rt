@@ -1,0 +1,15 @@
+//! Laws of the definitions: functions without a body, whose contract is the law.
+
+ghost use Rattle.mcc_commands.specs.RoundTrip.{ExportedFilesAreImports, WordsComeBack};
+
+/// The MCC file that is put of words whose packets are exported is imported as these words, where they have no more bytes than the limit:
+/// as just these, byte for byte.
+pub fn exported_files_are_imports()
+    ensures { ExportedFilesAreImports }
+{}
+
+/// What `export-mcc` put with the answer Ok, where it has no more bytes than the limit, `import-mcc` answers Ok where no count of faults
+/// rose, and has then put the words of which it was put, byte for byte; or memory is wanting.
+pub fn words_come_back()
+    ensures { WordsComeBack }
+{}

@@ -1,8 +1,0 @@
-pub mod PlacingLemmas
-pub mod ExportedLemmas
-pub mod SaidLemmas
-pub mod StepLemmas
-pub mod AnswerLemmas
-pub mod FileLemmas
-pub mod LineLemmas
-pub mod VerdictLemmas

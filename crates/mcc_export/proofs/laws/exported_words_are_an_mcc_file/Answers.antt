@@ -1,5 +1,0 @@
-use Rattle.mcc_export.proofs.FileLemmas.{exported_file}
-use Rattle.mcc_export.proofs.laws.exported_words_are_an_mcc_file.Goals as goal
-
-pub returns : goal.returns
-returns c = exported_file

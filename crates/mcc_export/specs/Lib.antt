@@ -1,5 +1,0 @@
-pub mod Placing
-pub mod Exported
-pub mod ExportMcc
-pub mod ExportSteps
-pub mod Verdict

@@ -1,6 +1,0 @@
-use Rattle.std.proofs.Common.{refl}
-use Rattle.mcc_import.proofs.HearLemmas.{nothing_heard}
-use Rattle.mcc_import.proofs.hearing.Hearer.new.Goals as goal
-
-pub returns : goal.returns
-returns c = nothing_heard _ c.in_ok-new.ensures refl

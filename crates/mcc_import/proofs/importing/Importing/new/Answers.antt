@@ -1,6 +1,0 @@
-use Rattle.std.proofs.Common.{refl}
-use Rattle.mcc_import.proofs.HearLemmas.{nothing_imported}
-use Rattle.mcc_import.proofs.importing.Importing.new.Goals as goal
-
-pub returns : goal.returns
-returns c = nothing_imported _ c.new.ensures c.in_ok-new.ensures c.new-3.ensures refl

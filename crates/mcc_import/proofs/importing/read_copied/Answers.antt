@@ -1,4 +1,0 @@
-use Rattle.mcc_import.proofs.importing.read_copied.Goals as goal
-
-pub returns : goal.returns
-returns c before placed was lines = c.read_line.ensures before placed (c.copied.ensures before placed was) lines

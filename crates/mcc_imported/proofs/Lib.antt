@@ -1,9 +1,0 @@
-pub mod WordsLemmas
-pub mod FrontLemmas
-pub mod OffenceLemmas
-pub mod LimitLemmas
-pub mod AnswerLemmas
-pub mod StandingLemmas
-pub mod ByteLemmas
-pub mod MakingLemmas
-pub mod EachLemmas

@@ -1,5 +1,0 @@
-use Rattle.mcc_payloads.proofs.FittingLemmas.{letter_few}
-use Rattle.mcc_payloads.proofs.reader.PayloadReader.item.Goals as goal
-
-pub fitting-bytes-requires-in-Some-letter_bytes : goal.fitting-bytes-requires-in-Some-letter_bytes
-fitting-bytes-requires-in-Some-letter_bytes c = letter_few c.args.byte c.in-Some-letter_bytes.brought.now c.in-Some-letter_bytes.ensures

@@ -1,6 +1,0 @@
-use Rattle.std.proofs.Common.{take}
-use Rattle.mcc_payloads.proofs.ItemLemmas.{AreTaken}
-use Rattle.mcc_payloads.proofs.reader.PayloadReader.take_item.Given as goal
-
-abbrev pub invariant-loop-byte : goal.invariant-loop-byte
-invariant-loop-byte l = AreTaken l.fn.self.bytes.items (take l.byte-index l.brought) l.counted

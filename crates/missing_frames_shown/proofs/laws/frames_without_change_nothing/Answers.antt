@@ -1,8 +1,0 @@
-use Rattle.missing_frames_shown.proofs.UnchangedLemmas.{without_change_nothing, without_tell_time}
-use Rattle.missing_frames_shown.proofs.laws.frames_without_change_nothing.Goals as goal
-
-pub returns-clause-shown : goal.returns-clause-shown
-returns-clause-shown c = without_change_nothing
-
-pub returns-clause-told : goal.returns-clause-told
-returns-clause-told c = without_tell_time

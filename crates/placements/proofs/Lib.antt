@@ -1,3 +1,0 @@
-pub mod PlacingLemmas
-pub mod FirstFitLemmas
-pub mod LaneRoomLemmas

@@ -1,4 +1,0 @@
-pub mod Placing
-pub mod OneMore
-pub mod FirstFit
-pub mod LaneRoom

@@ -1,2 +1,0 @@
-pub mod OnTheWay
-mod WordsLemmas

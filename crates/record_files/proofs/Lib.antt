@@ -1,5 +1,0 @@
-pub mod FieldFacts
-pub mod Goodness
-pub mod NumberFacts
-pub mod Passing
-pub mod Rows

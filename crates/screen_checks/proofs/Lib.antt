@@ -1,4 +1,0 @@
-pub mod AreaLemmas
-pub mod CheckLemmas
-pub mod ChannelsLemmas
-pub mod ServiceLemmas

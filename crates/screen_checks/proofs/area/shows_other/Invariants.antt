@@ -1,9 +1,0 @@
-use Rattle.std.proofs.Common.{◌≡◌, ◌<◌, ◌≤◌, ℕ}
-use Rattle.cc_receiver.specs.Receivers.{displayed_grid}
-use Rattle.authored_grids.specs.AuthoredGrid.{authored_grid}
-use Rattle.authored_places.specs.ChannelCursors.{cursor_channel}
-use Rattle.screen_checks.proofs.area.shows_other.Given as goal
-
-abbrev pub invariant-loop-row : goal.invariant-loop-row
-invariant-loop-row l = (row : ℕ) → row < l.row → 1 ≤ row → (column : ℕ) → column < 32
-    → displayed_grid l.receiver (cursor_channel l.cursor) row column ≡ authored_grid (cursor_channel l.cursor) l.cues l.frame row column

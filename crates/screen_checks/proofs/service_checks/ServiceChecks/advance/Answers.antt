@@ -1,8 +1,0 @@
-use Rattle.std.proofs.Common.{◌∙◌, sym}
-use Rattle.screen_checks.proofs.ServiceLemmas.{same_windows}
-use Rattle.screen_checks.proofs.service_checks.ServiceChecks.advance.Goals as goal
-
-pub returns-else-advance-clause-knows : goal.returns-else-advance-clause-knows
-returns-else-advance-clause-knows c former windows next at knows agrees service is id within =
-    knows agrees service is id within
-    ∙ sym (same_windows service id former c.args.frame c.args.cues.now is within c.requires.formed (c.advance.ensures.same former c.requires.turn next at c.if-advance.false))

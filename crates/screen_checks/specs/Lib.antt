@@ -1,4 +1,0 @@
-pub mod Differing
-pub mod Checks
-pub mod Channels
-pub mod Services

@@ -1,6 +1,0 @@
-use Rattle.std.proofs.Common.{◌≡◌, take}
-use Rattle.shared_field.specs.SecondChannel.{second_events}
-use Rattle.shared_field.proofs.second_channel.second_events.Given as goal
-
-abbrev pub invariant-loop-event : goal.invariant-loop-event
-invariant-loop-event l = l.seconds.items ≡ second_events l.in_field (take l.event-index l.events)

@@ -1,6 +1,0 @@
-use Rattle.std.proofs.Common.{◌≡◌, take}
-use Rattle.shared_field_shown.specs.Seen.{second_parts}
-use Rattle.shared_field.proofs.second_channel.second_parts.Given as goal
-
-abbrev pub invariant-loop-part : goal.invariant-loop-part
-invariant-loop-part l = l.seconds.items ≡ second_parts l.in_field (take l.part-index l.parts)

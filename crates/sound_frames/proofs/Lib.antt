@@ -1,4 +1,0 @@
-pub mod OtherPairsLemmas
-pub mod PlacedBlocksLemmas
-pub mod SeenLemmas
-pub mod SoundLemmas

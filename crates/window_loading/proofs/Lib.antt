@@ -1,5 +1,0 @@
-pub mod TextLemmas
-pub mod RunLemmas
-pub mod ApartLemmas
-pub mod LoadLemmas
-pub mod AuthoredLemmas

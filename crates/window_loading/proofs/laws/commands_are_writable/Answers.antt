@@ -1,5 +1,0 @@
-use Rattle.dtvcc_author.proofs.WritableLemmas.{commands_writable}
-use Rattle.window_loading.proofs.laws.commands_are_writable.Goals as goal
-
-pub returns : goal.returns
-returns c = commands_writable

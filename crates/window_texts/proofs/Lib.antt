@@ -1,4 +1,0 @@
-pub mod RowLemmas
-pub mod TextLemmas
-pub mod RunsOfLemmas
-pub mod DifferenceLemmas

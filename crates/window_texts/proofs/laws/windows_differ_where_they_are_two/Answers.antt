@@ -1,8 +1,0 @@
-use Rattle.std.proofs.Common.{subst, Some, ◌≡◌, false}
-use Rattle.window_texts.specs.Differences.{differs}
-use Rattle.window_texts.proofs.DifferenceLemmas.{differs-itself, one_where_same}
-use Rattle.window_texts.proofs.laws.windows_differ_where_they_are_two.Goals as goal
-
-pub returns : goal.returns
-returns c a b within within_too =
-    (λ none. one_where_same a b within within_too none, λ one. subst (λ other. differs (Some a) (Some other) ≡ false) one (differs-itself (Some a)))

@@ -1,4 +1,0 @@
-pub mod Runs
-pub mod WindowTexts
-pub mod Differences
-pub mod Examples

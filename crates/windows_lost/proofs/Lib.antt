@@ -1,2 +1,0 @@
-pub mod ResetLemmas
-pub mod LossLemmas
