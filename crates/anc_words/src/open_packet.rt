@@ -13,7 +13,7 @@ use crate::words::Word;
 use cc_base::{Machine, Step, Why};
 
 /// The word of an ancillary packet that comes next.
-#[derive(Clone, Copy, Debug, PartialEq, Eq)]
+#[derive(Clone, Copy, PartialEq, Eq)]
 pub(crate) enum Next {
     /// The first word of the flag.
     Zeros,
@@ -34,7 +34,7 @@ pub(crate) enum Next {
 }
 
 /// What is kept of an ancillary packet while it is read: none of its words, only which comes next, and their sum so far.
-#[derive(Clone, Copy, Debug)]
+#[derive(Clone, Copy)]
 pub(crate) struct OpenPacket {
     /// The high byte of a word whose low byte comes next.
     pub(crate) high: Option<u8>,

@@ -1,5 +1,5 @@
 /// A part of an ancillary packet that a reader of words hands upward.
-#[derive(Clone, Copy, Debug, PartialEq, Eq)]
+#[derive(Clone, Copy, PartialEq, Eq)]
 pub enum WordPart {
     /// A packet begins: its identifiers, and the number of its user words.
     Start {

@@ -20,7 +20,7 @@ use cc_base::{Fed, Refusal, Resume, Upward, Why};
 /// another one, `WordParity` where DID, SDID, the count, or a user word of captions (DID 61, SDID 01) has a wrong bit 8 or 9,
 /// `AncSum` where the checksum word is another one, and then for the reason of the layer above. The place is the number of
 /// the word's first byte. The reader keeps counts and a sum, and none of the words.
-#[derive(Clone, Copy, Debug)]
+#[derive(Clone, Copy)]
 pub struct WordReader {
     fed: Fed<OpenPacket>,
 }

@@ -2,7 +2,7 @@ use cc_base::Refusal;
 use findings::Finding;
 
 /// Why bytes that were fed aren't read on.
-#[derive(Clone, Copy, Debug, PartialEq, Eq)]
+#[derive(Clone, Copy, PartialEq, Eq)]
 pub enum FeedFault {
     /// This word is refused: no file goes on with it.
     Refused(Refusal),

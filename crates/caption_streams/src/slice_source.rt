@@ -3,7 +3,7 @@ ghost use Rattle.std.specs.Prelude.{◌≡◌, Some};
 use cc_base::{Source, Took};
 
 /// A source over the memory of a caller, which never fails and tells what is left.
-#[derive(Debug, Drop)]
+#[derive(Drop)]
 pub struct SliceSource<'a> {
     left: &'a [u8],
 }

@@ -52,7 +52,7 @@ fn after_flush(flushed: bool, faults: &mut u64) -> Put
 }
 
 /// A source over a reader. It tells what is left where the reader does, which a file and standard input don't.
-#[derive(Debug, Drop)]
+#[derive(Drop)]
 pub struct ReaderSource<R: Read> {
     inner: R,
     faults: u64,
@@ -84,7 +84,7 @@ impl<R: Read> Source for ReaderSource<R> {
 }
 
 /// A sink over a writer. It tells what is written where the writer does, which a file and standard output don't.
-#[derive(Debug, Drop)]
+#[derive(Drop)]
 pub struct WriterSink<W: Write> {
     inner: W,
     faults: u64,

@@ -42,7 +42,7 @@ pub trait Machine<I, P> {
 }
 
 /// A reader made of a machine: it counts the items, and keeps the refusal.
-#[derive(Clone, Copy, Debug)]
+#[derive(Clone, Copy)]
 pub struct Fed<M> {
     /// What judges an item.
     pub machine: M,

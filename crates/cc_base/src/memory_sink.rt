@@ -8,7 +8,7 @@ use std::alloc::{AllocError, Global};
 /// A sink over memory of a chosen room that fails at chosen puts.
 ///
 /// It tells what is written, and a put takes no memory.
-#[derive(Debug, Drop)]
+#[derive(Drop)]
 pub struct MemorySink {
     bytes: Vec<u8>,
     room: usize,

@@ -7,7 +7,7 @@ use crate::streams::{Source, Took};
 /// A source over memory that gives its bytes in pieces of chosen sizes and fails at chosen calls.
 ///
 /// It tells what is left.
-#[derive(Debug, Drop)]
+#[derive(Drop)]
 pub struct MemorySource {
     bytes: Vec<u8>,
     at: usize,
@@ -95,7 +95,7 @@ impl Source for MemorySource {
 /// A source over memory that never fails, and gives as many bytes as fit.
 ///
 /// It tells what is left, and its count of faults is 0.
-#[derive(Debug, Drop)]
+#[derive(Drop)]
 pub struct SteadySource {
     bytes: Vec<u8>,
     at: usize,

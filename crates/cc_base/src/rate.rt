@@ -2,7 +2,7 @@ ghost use Rattle.std.specs.Prelude.{◌≡◌, ℕ, ◌*◌, ◌≤◌};
 ghost use Rattle.cc_base.specs.Rate.{rate_code, rate_of, num_of, den_of, triplets_in_frame, delay_frames_of};
 
 /// A frame rate of caption distribution packets (SMPTE ST 334-2, cdp_header), in the order of its codes 1 to 8.
-#[derive(Clone, Copy, Debug, PartialEq, Eq)]
+#[derive(Clone, Copy, PartialEq, Eq)]
 pub enum Rate {
     /// 23.976 frames a second.
     F23976,

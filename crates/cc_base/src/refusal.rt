@@ -1,7 +1,7 @@
 use crate::why::Why;
 
 /// Where a resumable reader refused its input, and why.
-#[derive(Clone, Copy, Debug, PartialEq, Eq)]
+#[derive(Clone, Copy, PartialEq, Eq)]
 pub struct Refusal {
     /// The number of the refused item, counted from 0 at the reader's start, modulo 2^64; for a word of two bytes that of its
     /// first byte.

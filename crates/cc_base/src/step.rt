@@ -1,7 +1,7 @@
 use crate::why::Why;
 
 /// What a reader makes of one item.
-#[derive(Clone, Copy, Debug, PartialEq, Eq)]
+#[derive(Clone, Copy, PartialEq, Eq)]
 pub enum Step<P> {
     /// The item completes no part.
     Nothing,

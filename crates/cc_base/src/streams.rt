@@ -2,7 +2,7 @@ ghost use Rattle.std.specs.Prelude.{ℕ, ◌<◌, List, Option, length};
 ghost use Rattle.cc_base.specs.Streams.{PutCause, Puts, PutsEmpty, TakeCause, Takes};
 
 /// What a take answered.
-#[derive(Clone, Copy, Debug, PartialEq, Eq)]
+#[derive(Clone, Copy, PartialEq, Eq)]
 pub enum Took {
     /// So many bytes, at least one, stand at the front of the buffer.
     Got(usize),
@@ -27,7 +27,7 @@ pub trait Source {
 }
 
 /// What a put answered.
-#[derive(Clone, Copy, Debug, PartialEq, Eq)]
+#[derive(Clone, Copy, PartialEq, Eq)]
 pub enum Put {
     /// The whole piece is written.
     Done,

@@ -5,7 +5,7 @@ use crate::streams::{Source, Took};
 use std::alloc::Global;
 
 /// Why an input wasn't read to its end.
-#[derive(Clone, Copy, Debug, PartialEq, Eq)]
+#[derive(Clone, Copy, PartialEq, Eq)]
 pub enum ReadError {
     /// Out of memory.
     Memory,

@@ -3,7 +3,7 @@ ghost use Rattle.cc_data.specs.Triplets.{IsTriplet, bytes_of_triplet, triplet_of
 
 /// A triplet of cc_data: two bytes of captions, what they belong to and whether they count
 /// (CTA-708-E, cc_data()).
-#[derive(Clone, Copy, Debug, Default, PartialEq, Eq)]
+#[derive(Clone, Copy, Default, PartialEq, Eq)]
 pub struct Triplet {
     /// Whether the triplet counts (cc_valid). One that doesn't is ignored, whatever its kind.
     pub valid: bool,

@@ -24,7 +24,7 @@ pub(crate) fn is_of_channel(triplet: Triplet) -> bool
 
 /// The readers of the caption channel: of its packets, and of the service blocks in them (CTA-708-E, sections 5 and 6). They judge
 /// what the frames carry of it, and hand nothing on.
-#[derive(Clone, Copy, Debug)]
+#[derive(Clone, Copy)]
 pub(crate) struct Channel {
     pub(crate) packets: PacketReader,
     pub(crate) blocks: BlockReader,

@@ -33,7 +33,7 @@ use line21_screen::Memory;
 use std::alloc::{AllocError, Global};
 
 /// Whether an ancillary packet ended, and which.
-#[derive(Clone, Copy, Debug, PartialEq, Eq)]
+#[derive(Clone, Copy, PartialEq, Eq)]
 pub enum Ended {
     /// No packet ended.
     No,
@@ -44,7 +44,7 @@ pub enum Ended {
 }
 
 /// How far the bytes of one call were read.
-#[derive(Clone, Copy, Debug, PartialEq, Eq)]
+#[derive(Clone, Copy, PartialEq, Eq)]
 pub struct Fed {
     /// The number of bytes that were read.
     pub used: usize,

@@ -15,7 +15,7 @@ use cue_types::{Cue, Kind};
 use line21_codes::Chan;
 
 /// Where a channel stands in the cues of a list at a frame: behind the last of its cues whose SHOW has come.
-#[derive(Clone, Copy, Debug, PartialEq, Eq)]
+#[derive(Clone, Copy, PartialEq, Eq)]
 pub struct ChannelCursor {
     channel: Chan,
     // The number of the last cue of the channel whose SHOW has come, counted from 0.

@@ -7,7 +7,7 @@ use cue_types::{Cue, Pen, Run};
 use line21_codes::{Cell, Colour};
 
 /// What stands in a row of a channel: the runs of a cue in this row of theirs.
-#[derive(Clone, Copy, Debug, PartialEq, Eq)]
+#[derive(Clone, Copy, PartialEq, Eq)]
 pub struct Line {
     /// The number of the cue in its list, counted from 0.
     pub cue: usize,

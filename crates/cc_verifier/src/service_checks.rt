@@ -22,7 +22,7 @@ use cue_types::{Cue, LAST_SERVICE};
 /// that (CTA-708-E).
 ///
 /// Windows are compared only in frames in which something that is seen may have changed, or what is to be seen.
-#[derive(Clone, Copy, Debug, PartialEq, Eq)]
+#[derive(Clone, Copy, PartialEq, Eq)]
 pub struct ServiceChecks {
     cursors: WindowCursors,
     // Whether all windows showed what is authored at the frame to come.

@@ -18,7 +18,7 @@ use line21_codes::Chan;
 use std::alloc::{AllocError, Global};
 
 /// How words were judged.
-#[derive(Clone, Copy, Debug, PartialEq, Eq)]
+#[derive(Clone, Copy, PartialEq, Eq)]
 pub enum Verdict {
     /// They are a words file with as many frames as the list has, at least, and nothing is found at any.
     Ok,

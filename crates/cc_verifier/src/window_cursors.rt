@@ -13,7 +13,7 @@ use cue_types::{Cue, Kind};
 const WINDOWS: usize = 48;
 
 /// Where the windows of a list's services stand in its cues at a frame: each at the first of its cues whose HIDE is to come.
-#[derive(Clone, Copy, Debug, PartialEq, Eq)]
+#[derive(Clone, Copy, PartialEq, Eq)]
 pub struct WindowCursors {
     // For each window the number of that cue, counted from 0, or how many cues there are.
     places: [usize; WINDOWS],

@@ -17,7 +17,7 @@ use time_codes::{Counting, TimeCode, frame_of};
 
 /// The time code of a words file's frame 0.
 #[repr(C)]
-#[derive(Clone, Copy, Debug, PartialEq, Eq)]
+#[derive(Clone, Copy, PartialEq, Eq)]
 pub struct StartTime {
     /// Hours, 0 to 23.
     pub hours: u8,

@@ -8,7 +8,7 @@ use line21_codes::{Cell, Chan, Colour};
 
 /// A cell of a channel of line 21 as it is displayed: all zeros where it is empty.
 #[repr(C)]
-#[derive(Clone, Copy, Debug, PartialEq, Eq)]
+#[derive(Clone, Copy, PartialEq, Eq)]
 pub struct TextCell {
     /// The Unicode scalar value of the character; 0 where the cell is empty.
     pub ch: u32,
@@ -22,7 +22,7 @@ pub struct TextCell {
 
 /// A colour with its opacity (CTA-708-E, SetPenColor and SetWindowAttributes).
 #[repr(C)]
-#[derive(Clone, Copy, Debug, PartialEq, Eq)]
+#[derive(Clone, Copy, PartialEq, Eq)]
 pub struct Shade {
     /// 0 solid, 1 flash, 2 translucent, 3 transparent.
     pub opacity: u8,
@@ -36,7 +36,7 @@ pub struct Shade {
 
 /// A colour without an opacity (CTA-708-E, SetPenColor and SetWindowAttributes).
 #[repr(C)]
-#[derive(Clone, Copy, Debug, PartialEq, Eq)]
+#[derive(Clone, Copy, PartialEq, Eq)]
 pub struct Edge {
     /// Red, 0 to 3.
     pub red: u8,
@@ -48,7 +48,7 @@ pub struct Edge {
 
 /// A cell of a window of a service: all zeros where it is empty (CTA-708-E, pens).
 #[repr(C)]
-#[derive(Clone, Copy, Debug, PartialEq, Eq)]
+#[derive(Clone, Copy, PartialEq, Eq)]
 pub struct WindowCell {
     /// The Unicode scalar value of the character; 0 where the cell is empty.
     pub ch: u32,
@@ -76,7 +76,7 @@ pub struct WindowCell {
 
 /// A window of a service (CTA-708-E, DefineWindow and SetWindowAttributes).
 #[repr(C)]
-#[derive(Clone, Copy, Debug, PartialEq, Eq)]
+#[derive(Clone, Copy, PartialEq, Eq)]
 pub struct WindowSeen {
     /// 1 where it is shown.
     pub visible: u8,

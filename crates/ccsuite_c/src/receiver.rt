@@ -24,7 +24,7 @@ use std::alloc::{AllocError, Global};
 
 /// The last whole frame.
 #[repr(C)]
-#[derive(Clone, Copy, Debug, PartialEq, Eq)]
+#[derive(Clone, Copy, PartialEq, Eq)]
 pub struct FrameSeen {
     /// Its number: how many frames came before it; by the counters of the frames, where some may be missing.
     pub number: u64,

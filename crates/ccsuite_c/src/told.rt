@@ -36,7 +36,7 @@ pub(crate) const NONE: u32 = 35;
 
 /// How far a call read, and what it met.
 #[repr(C)]
-#[derive(Clone, Copy, Debug, PartialEq, Eq)]
+#[derive(Clone, Copy, PartialEq, Eq)]
 pub struct FedBytes {
     /// The number of bytes read.
     pub used: usize,

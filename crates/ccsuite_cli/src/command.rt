@@ -11,7 +11,7 @@ use load_commands::MOST_LOAD;
 use time_codes::{Counting, TimeCode, frame_of, read_time};
 
 /// What the words of a command line ask for.
-#[derive(Clone, Copy, Debug, PartialEq, Eq)]
+#[derive(Clone, Copy, PartialEq, Eq)]
 pub enum Command {
     /// `pairs`: the pairs of each frame of a cue list.
     Pairs,

@@ -11,7 +11,7 @@ use crate::within::{Within, read_section_byte};
 use cc_base::{Machine, Rate, Step, Why};
 
 /// The byte of a packet that comes next.
-#[derive(Clone, Copy, Debug, PartialEq, Eq)]
+#[derive(Clone, Copy, PartialEq, Eq)]
 pub(crate) enum Place {
     /// One of the seven bytes before the sections.
     Head(Head),
@@ -24,7 +24,7 @@ pub(crate) enum Place {
 }
 
 /// A byte before the sections.
-#[derive(Clone, Copy, Debug, PartialEq, Eq)]
+#[derive(Clone, Copy, PartialEq, Eq)]
 pub(crate) enum Head {
     /// The first byte of the identifier.
     First,
@@ -43,7 +43,7 @@ pub(crate) enum Head {
 }
 
 /// A byte of the footer.
-#[derive(Clone, Copy, Debug, PartialEq, Eq)]
+#[derive(Clone, Copy, PartialEq, Eq)]
 pub(crate) enum Footer {
     /// The footer's id.
     Id,
@@ -57,7 +57,7 @@ pub(crate) enum Footer {
 
 /// What is kept of a packet while it is read: none of the bytes of its sections, only which byte comes next, how many are
 /// left, the counter, and the sum so far.
-#[derive(Clone, Copy, Debug)]
+#[derive(Clone, Copy)]
 pub(crate) struct OpenPacket {
     /// The length of the whole packet.
     pub(crate) length: u8,

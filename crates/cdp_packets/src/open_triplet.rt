@@ -7,7 +7,7 @@ use cc_base::Step;
 use cc_data::read_triplet;
 
 /// The bytes of a triplet that have come.
-#[derive(Clone, Copy, Debug, PartialEq, Eq)]
+#[derive(Clone, Copy, PartialEq, Eq)]
 pub(crate) enum OpenTriplet {
     /// None.
     Empty,

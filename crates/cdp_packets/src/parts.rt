@@ -2,7 +2,7 @@ use cc_base::Rate;
 use cc_data::Triplet;
 
 /// A part of a caption distribution packet that a reader of its bytes hands upward.
-#[derive(Clone, Copy, Debug, PartialEq, Eq)]
+#[derive(Clone, Copy, PartialEq, Eq)]
 pub enum CdpPart {
     /// The frame rate.
     Rate(Rate),

@@ -20,7 +20,7 @@ use cc_base::{Fed, Refusal, Resume, Step, Upward, Why};
 /// section's second byte, `Section` again where the footer's id is another one, `Counter` where the footer's isn't that of
 /// the head, and `Sum`; or for the reason of the layer above. The place is the number of the byte. Bytes behind the packet's
 /// end change nothing. The reader keeps counts and a sum, and no list of bytes.
-#[derive(Clone, Copy, Debug)]
+#[derive(Clone, Copy)]
 pub struct CdpReader {
     fed: Fed<OpenPacket>,
 }

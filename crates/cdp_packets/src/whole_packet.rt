@@ -12,7 +12,7 @@ use crate::sections::{
 use cc_base::Rate;
 
 /// What a whole distribution packet says before its sections, and the bytes of these (SMPTE ST 334-2).
-#[derive(Clone, Copy, Debug, PartialEq, Eq)]
+#[derive(Clone, Copy, PartialEq, Eq)]
 pub struct WholePacket<'a> {
     /// The frame rate.
     pub rate: Rate,

@@ -13,7 +13,7 @@ use crate::sections::{
 use cc_base::{Step, Why};
 
 /// A byte of the sections.
-#[derive(Clone, Copy, Debug, PartialEq, Eq)]
+#[derive(Clone, Copy, PartialEq, Eq)]
 pub(crate) enum Within {
     /// The id of a section.
     Id,

@@ -7,7 +7,7 @@ use cc_base::{Machine, Step};
 use cc_data::Triplet;
 
 /// What is kept of a channel packet while it is read: none of its bytes, only its number and how many are left.
-#[derive(Clone, Copy, Debug)]
+#[derive(Clone, Copy)]
 pub(crate) struct OpenPacket {
     /// The number of the last packet, if there was one.
     pub(crate) last: Option<u8>,

@@ -1,5 +1,5 @@
 /// A part of a caption channel packet that a reader of its triplets hands upward.
-#[derive(Clone, Copy, Debug, PartialEq, Eq)]
+#[derive(Clone, Copy, PartialEq, Eq)]
 pub enum PacketPart {
     /// A packet begins with its header.
     Header {

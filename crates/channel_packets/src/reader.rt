@@ -18,7 +18,7 @@ use cc_data::Triplet;
 /// belong to no packet where none is open. Triplets that don't count, and those of line 21, are passed over. The reader
 /// refuses nothing: a refusal is one of the layer above, and its place is the number of the triplet. It keeps the last
 /// packet's number and how many of its bytes are left, and none of the bytes.
-#[derive(Clone, Copy, Debug)]
+#[derive(Clone, Copy)]
 pub struct PacketReader {
     fed: Fed<OpenPacket>,
 }

@@ -6,7 +6,7 @@ use arrayvec::ArrayVec;
 use cc_data::{PACKET_DATA, PACKET_START, Triplet};
 
 /// Writes the service blocks of frames as caption channel packets (CTA-708-E, section 5), and numbers these.
-#[derive(Clone, Copy, Debug)]
+#[derive(Clone, Copy)]
 pub struct PacketWriter {
     // The number of the next packet.
     number: u8,

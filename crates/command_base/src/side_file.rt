@@ -4,7 +4,7 @@ use cc_base::{ReaderSource, Source, Took};
 use std::io::Read;
 
 /// Where the bytes of a side file come from.
-#[derive(Debug, Drop)]
+#[derive(Drop)]
 pub enum SideFile<R: Read> {
     /// The file that was opened.
     Opened(ReaderSource<R>),

@@ -6,7 +6,7 @@ use cue_lists::RuleFault;
 use findings::{Finding, Misfit};
 
 /// Where an input is malformed.
-#[derive(Clone, Copy, Debug, PartialEq, Eq)]
+#[derive(Clone, Copy, PartialEq, Eq)]
 pub enum Place {
     /// The number of a byte, counted from 0.
     Byte(u64),
@@ -15,7 +15,7 @@ pub enum Place {
 }
 
 /// How a run ended.
-#[derive(Clone, Copy, Debug, PartialEq, Eq)]
+#[derive(Clone, Copy, PartialEq, Eq)]
 pub enum Status {
     /// The input was read to its end, and the output is whole.
     Ok,

@@ -10,7 +10,7 @@ use text_output::Gathered;
 use words_reading::{Judge, Reason, Stop};
 
 /// A frame that has a misfit, the first of all: for it a conversion stops.
-#[derive(Clone, Copy, Debug, PartialEq, Eq)]
+#[derive(Clone, Copy, PartialEq, Eq)]
 pub struct Unfit {
     /// Which frame, and why.
     pub misfit: Misfit,

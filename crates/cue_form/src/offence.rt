@@ -5,7 +5,7 @@ use cc_base::{LimitOf, Why};
 use std::alloc::AllocError;
 
 /// Why a record can't be taken.
-#[derive(Clone, Copy, Debug)]
+#[derive(Clone, Copy)]
 pub enum Offence {
     /// Memory ran out.
     Memory(AllocError),

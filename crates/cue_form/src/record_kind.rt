@@ -4,7 +4,7 @@ ghost use Rattle.cue_form.specs.Form.{record_kind_of};
 use crate::is_word;
 
 /// The kinds of records of a cue list, each named by its first field.
-#[derive(Clone, Copy, Debug, PartialEq, Eq)]
+#[derive(Clone, Copy, PartialEq, Eq)]
 pub enum RecordKind {
     Ccsuite,
     Share,

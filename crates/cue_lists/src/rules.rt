@@ -31,7 +31,7 @@ mod unhidden;
 mod windows;
 
 /// The fault of the first cue of a list that breaks a rule, by the lowest rule that it breaks.
-#[derive(Clone, Copy, Debug, PartialEq, Eq)]
+#[derive(Clone, Copy, PartialEq, Eq)]
 pub struct RuleFault {
     /// The rule.
     pub why: Why,

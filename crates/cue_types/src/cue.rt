@@ -4,7 +4,7 @@ use dtvcc_codes::{PenColors, WinAttr};
 use line21_codes::{Chan, Style};
 
 /// How a cue is shown, and where.
-#[derive(Clone, Copy, Debug, PartialEq, Eq)]
+#[derive(Clone, Copy, PartialEq, Eq)]
 pub enum Kind {
     /// A pop-on caption of line 21, on CC1 or CC3 (CTA-608-E; 47 CFR 79.101).
     Pop(Chan),
@@ -17,7 +17,7 @@ pub enum Kind {
 }
 
 /// A window of a DTVCC service (CTA-708-E, 8.4), and when it is shown.
-#[derive(Clone, Copy, Debug, PartialEq, Eq)]
+#[derive(Clone, Copy, PartialEq, Eq)]
 pub struct WinCue {
     /// The service, 1 to 6.
     pub service: u8,
@@ -46,7 +46,7 @@ pub struct WinCue {
 }
 
 /// What a run is written with.
-#[derive(Clone, Copy, Debug, PartialEq, Eq)]
+#[derive(Clone, Copy, PartialEq, Eq)]
 pub enum Pen {
     /// The style of a line 21 run; italics are white.
     Line21(Style),
@@ -55,7 +55,7 @@ pub enum Pen {
 }
 
 /// A text in one row of a cue.
-#[derive(Debug, Drop)]
+#[derive(Drop)]
 pub struct Run {
     /// The row: 1 to 15 on line 21; in a window from 0, below its rows.
     pub row: u8,
@@ -70,7 +70,7 @@ pub struct Run {
 }
 
 /// A caption.
-#[derive(Debug, Drop)]
+#[derive(Drop)]
 pub struct Cue {
     /// The first frame in which the cue may be sent.
     pub load: u32,

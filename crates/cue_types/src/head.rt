@@ -1,7 +1,7 @@
 use cc_base::Rate;
 
 /// The version of a cue list's records.
-#[derive(Clone, Copy, Debug, PartialEq, Eq)]
+#[derive(Clone, Copy, PartialEq, Eq)]
 pub enum Version {
     /// Without the records of version 2.
     One,
@@ -10,7 +10,7 @@ pub enum Version {
 }
 
 /// The head of a cue list, which is its first record.
-#[derive(Clone, Copy, Debug, PartialEq, Eq)]
+#[derive(Clone, Copy, PartialEq, Eq)]
 pub struct Head {
     /// The version of the records.
     pub version: Version,

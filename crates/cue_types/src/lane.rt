@@ -5,7 +5,7 @@ use crate::cue::Kind;
 use line21_codes::Chan;
 
 /// What a cue is sent on.
-#[derive(Clone, Copy, Debug, PartialEq, Eq)]
+#[derive(Clone, Copy, PartialEq, Eq)]
 pub enum Lane {
     /// A channel of line 21.
     Channel(Chan),

@@ -16,7 +16,7 @@ pub const MOST_CUES: usize = 20_000;
 pub const LAST_SERVICE: u8 = 6;
 
 /// The part of each frame's packet that a DTVCC service may use.
-#[derive(Clone, Copy, Debug, PartialEq, Eq)]
+#[derive(Clone, Copy, PartialEq, Eq)]
 pub struct Share {
     /// The service, 1 to 6.
     pub service: u8,
@@ -35,7 +35,7 @@ pub fn share_room(rate: Rate) -> u32
 }
 
 /// A cue list whose every field is in its range; at most 20,000 cues.
-#[derive(Debug, Drop)]
+#[derive(Drop)]
 pub struct CueList {
     rate: Rate,
     frames: u32,

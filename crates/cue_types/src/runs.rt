@@ -7,7 +7,7 @@ use std::alloc::AllocError;
 use std::marker::Model;
 
 /// The runs of a cue, seen as the list of them in the order of their records.
-#[derive(Debug, Drop)]
+#[derive(Drop)]
 pub struct Runs {
     items: Vec<Run>,
 }

@@ -3,7 +3,7 @@ ghost use Rattle.std.specs.Prelude.{◌≡◌};
 use std::marker::Model;
 
 /// The text of a run, seen as the list of its characters.
-#[derive(Debug, Drop)]
+#[derive(Drop)]
 pub struct Text {
     chars: Vec<char>,
 }

@@ -6,7 +6,7 @@ use cue_types::{Cue, Kind, WinCue};
 use std::alloc::{AllocError, Global};
 
 /// When a window cue is sent, shown and hidden, and in which window. Frames are counted from 0.
-#[derive(Clone, Copy, Debug, PartialEq, Eq)]
+#[derive(Clone, Copy, PartialEq, Eq)]
 pub struct Caption {
     /// The window, 0 to 7.
     pub id: u8,

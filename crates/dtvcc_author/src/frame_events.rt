@@ -15,7 +15,7 @@ const DISPLAY_WINDOWS: u8 = 0x89;
 const DELAY: u8 = 0x8D;
 
 /// A delay of a service, and what it puts off.
-#[derive(Clone, Copy, Debug, PartialEq, Eq)]
+#[derive(Clone, Copy, PartialEq, Eq)]
 pub struct Delay {
     /// How long it lasts, in tenths of a second, 1 to 255.
     pub tenths: u8,
@@ -27,7 +27,7 @@ pub struct Delay {
 
 /// What a service is sent in a frame before what loads captions: the windows that are hidden there and those that are shown
 /// there, a bit each, and the delay that starts there.
-#[derive(Clone, Copy, Debug, PartialEq, Eq)]
+#[derive(Clone, Copy, PartialEq, Eq)]
 pub struct FrameEvents {
     pub hidden: u8,
     pub shown: u8,

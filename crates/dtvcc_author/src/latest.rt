@@ -12,7 +12,7 @@ const BITS: [u8; 8] = [0x01, 0x02, 0x04, 0x08, 0x10, 0x20, 0x40, 0x80];
 
 /// In each window of a service the caption that was loaded last before a frame, so that the events of the frame are told
 /// without going through all captions.
-#[derive(Clone, Copy, Debug)]
+#[derive(Clone, Copy)]
 pub struct Latest {
     // How many captions were loaded.
     next: usize,

@@ -9,7 +9,7 @@ use std::marker::Model;
 
 /// Units in the order in which they are sent, each seen as its bytes. They are kept as the bytes of all, one unit behind the
 /// other, and the length of each, so that a unit takes one byte more than it has.
-#[derive(Debug, Drop)]
+#[derive(Drop)]
 pub struct PackedUnits {
     bytes: Vec<u8>,
     lengths: Vec<u8>,

@@ -6,7 +6,7 @@ use std::marker::Model;
 
 /// Units in the order in which they are sent, each seen as its bytes: one command or one character each, which is not divided
 /// between frames.
-#[derive(Debug, Drop)]
+#[derive(Drop)]
 pub struct DUnits {
     units: Vec<ArrayVec<u8, 7>>,
 }

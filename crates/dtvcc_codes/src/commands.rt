@@ -2,7 +2,7 @@ use crate::pens::{PenAttr, PenColors};
 use crate::windows::{Definition, WinAttr};
 
 /// What one spelling among a service's bytes says (CTA-708-E, the coding layer): a character, or a command.
-#[derive(Clone, Copy, Debug, PartialEq, Eq)]
+#[derive(Clone, Copy, PartialEq, Eq)]
 pub enum Command {
     /// A character; `None` is the transparent space.
     Put(Option<char>),

@@ -11,7 +11,7 @@ const ROOM: usize = 7;
 
 /// What is kept of a command while its bytes come: these, seven at most, or only the number of those to come of a longer one
 /// that is passed over. Each byte is taken by itself (CTA-708-E, 7.1).
-#[derive(Clone, Copy, Debug)]
+#[derive(Clone, Copy)]
 pub struct OpenCommand {
     // The bytes that came, in front.
     bytes: [u8; ROOM],

@@ -1,5 +1,5 @@
 /// A colour of 2 bits for each part, from 0 to 3 (CTA-708-E, SetPenColor and SetWindowAttributes).
-#[derive(Clone, Copy, Debug, Default, PartialEq, Eq)]
+#[derive(Clone, Copy, Default, PartialEq, Eq)]
 pub struct Rgb {
     /// Red, 0 to 3.
     pub r: u8,
@@ -10,7 +10,7 @@ pub struct Rgb {
 }
 
 /// A colour with its opacity (CTA-708-E, SetPenColor and SetWindowAttributes).
-#[derive(Clone, Copy, Debug, Default, PartialEq, Eq)]
+#[derive(Clone, Copy, Default, PartialEq, Eq)]
 pub struct Fill {
     /// 0 solid, 1 flash, 2 translucent, 3 transparent.
     pub opacity: u8,
@@ -24,7 +24,7 @@ pub struct Fill {
 
 /// What SetPenAttributes says of the characters that follow (CTA-708-E, SPA). Fields are kept as the bits came, also where
 /// the standard gives them no meaning.
-#[derive(Clone, Copy, Debug, Default, PartialEq, Eq)]
+#[derive(Clone, Copy, Default, PartialEq, Eq)]
 pub struct PenAttr {
     /// 0 small, 1 standard, 2 large; at most 3.
     pub size: u8,
@@ -44,7 +44,7 @@ pub struct PenAttr {
 }
 
 /// What SetPenColor says of the characters that follow (CTA-708-E, SPC).
-#[derive(Clone, Copy, Debug, Default, PartialEq, Eq)]
+#[derive(Clone, Copy, Default, PartialEq, Eq)]
 pub struct PenColors {
     /// The characters.
     pub fg: Fill,

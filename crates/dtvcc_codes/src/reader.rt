@@ -10,7 +10,7 @@ use cc_base::{Fed, Refusal, Resume, Upward};
 /// Cuts the bytes of a service, in any pieces, into commands, and hands these upward: each with its last byte
 /// (CTA-708-E, 7.1). It refuses nothing of its own; the layer above may, and then that refusal is kept. It keeps at most
 /// seven bytes.
-#[derive(Clone, Copy, Debug)]
+#[derive(Clone, Copy)]
 pub struct CommandReader {
     fed: Fed<OpenCommand>,
 }

@@ -2,7 +2,7 @@ use crate::pens::{Fill, Rgb};
 
 /// What SetWindowAttributes says of the current window (CTA-708-E, SWA). Fields are kept as the bits came, also where the
 /// standard gives them no meaning.
-#[derive(Clone, Copy, Debug, Default, PartialEq, Eq)]
+#[derive(Clone, Copy, Default, PartialEq, Eq)]
 pub struct WinAttr {
     /// 0 left, 1 right, 2 centre, 3 full.
     pub justify: u8,
@@ -28,7 +28,7 @@ pub struct WinAttr {
 
 /// What DefineWindow says (CTA-708-E, DF0 to DF7). Fields are kept as the bits came, also where the standard gives them no
 /// meaning.
-#[derive(Clone, Copy, Debug, Default, PartialEq, Eq)]
+#[derive(Clone, Copy, Default, PartialEq, Eq)]
 pub struct Definition {
     /// The window, 0 to 7.
     pub id: u8,

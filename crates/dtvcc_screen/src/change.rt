@@ -7,7 +7,7 @@ use dtvcc_codes::Command;
 use dtvcc_windows::Window;
 
 /// What a byte of windows asks of each window that it names (CTA-708-E, CLW, DSW, HDW, TGW and DLW).
-#[derive(Clone, Copy, Debug)]
+#[derive(Clone, Copy)]
 pub(crate) enum Change {
     Clear,
     Show,

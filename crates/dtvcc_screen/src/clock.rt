@@ -1,7 +1,7 @@
 use cc_base::Rate;
 
 /// What all services are told of the frames.
-#[derive(Clone, Copy, Debug, PartialEq, Eq)]
+#[derive(Clone, Copy, PartialEq, Eq)]
 pub struct Clock {
     /// The frames so far, the present one counted.
     pub ticks: u64,

@@ -16,7 +16,7 @@ pub(crate) struct Member {
 }
 
 /// What a service makes of a byte.
-#[derive(Clone, Copy, Debug)]
+#[derive(Clone, Copy)]
 pub(crate) struct Taken {
     /// The byte brought the held bytes to 128.
     pub(crate) full: bool,

@@ -7,7 +7,7 @@ use crate::members::Member;
 use dtvcc_screen::Clock;
 
 /// What a pass over all services found.
-#[derive(Clone, Copy, Debug)]
+#[derive(Clone, Copy)]
 pub(crate) struct Passed {
     /// No delay ends before this frame.
     pub(crate) next: u64,

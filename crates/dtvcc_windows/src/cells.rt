@@ -16,7 +16,7 @@ const COLUMNS: usize = 64;
 const PLACES: usize = 1024;
 
 /// A character in a window, with the attributes and colours that the pen had when it was written (CTA-708-E, pens).
-#[derive(Clone, Copy, Debug, PartialEq, Eq)]
+#[derive(Clone, Copy, PartialEq, Eq)]
 pub struct DCell {
     /// The character.
     pub ch: char,

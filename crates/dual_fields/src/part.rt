@@ -2,7 +2,7 @@ use lanes::FieldChunk;
 use line21_author::Unit;
 
 /// A unit with what its cue asks of its place, beside the unit that its cue begins with.
-#[derive(Clone, Copy, Debug, PartialEq, Eq)]
+#[derive(Clone, Copy, PartialEq, Eq)]
 pub struct Part {
     pub chunk: FieldChunk,
     /// The first unit of its cue.

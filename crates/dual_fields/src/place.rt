@@ -9,14 +9,14 @@ use crate::part::Part;
 use crate::slot_use::SlotUse;
 
 /// Where a unit begins, and where its cue's first unit comes again before it. Slots are counted from 0.
-#[derive(Clone, Copy, Debug, PartialEq, Eq)]
+#[derive(Clone, Copy, PartialEq, Eq)]
 pub struct Place {
     pub slot: u32,
     pub resume: Option<u32>,
 }
 
 /// Whether a cue's first unit has to come again before its next unit.
-#[derive(Clone, Copy, Debug, PartialEq, Eq)]
+#[derive(Clone, Copy, PartialEq, Eq)]
 pub enum Resume {
     /// No foreign slot lay behind the unit before.
     NotNeeded,

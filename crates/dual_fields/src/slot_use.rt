@@ -1,5 +1,5 @@
 /// What a slot of a field is for a lane.
-#[derive(Clone, Copy, Debug, PartialEq, Eq)]
+#[derive(Clone, Copy, PartialEq, Eq)]
 pub enum SlotUse {
     /// A unit of the lane may stand there.
     Free,

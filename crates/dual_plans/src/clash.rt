@@ -12,7 +12,7 @@ use line21_slots::Cadence;
 use std::alloc::{AllocError, Global};
 
 /// Two cues whose events hold one slot of a field, by their numbers, which are counted from 1.
-#[derive(Clone, Copy, Debug, PartialEq, Eq)]
+#[derive(Clone, Copy, PartialEq, Eq)]
 pub struct Clash {
     /// The cue of the second list.
     pub second: u32,

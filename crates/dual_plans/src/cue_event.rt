@@ -13,7 +13,7 @@ use line21_slots::Cadence;
 use std::alloc::{AllocError, Global};
 
 /// An event of a cue: the slot in which it begins, counted from 0, and the number of its cue, counted from 1.
-#[derive(Clone, Copy, Debug, PartialEq, Eq)]
+#[derive(Clone, Copy, PartialEq, Eq)]
 pub struct CueEvent {
     pub slot: u32,
     pub cue: u32,

@@ -6,7 +6,7 @@ ghost use Rattle.dual_plans.specs.OtherList.{IsJudged};
 use cue_lists::{CueList, LAST_SERVICE};
 
 /// A field of a second list that isn't as the first list asks, by the numbers of its record and of the field in that, from 1.
-#[derive(Clone, Copy, Debug, PartialEq, Eq)]
+#[derive(Clone, Copy, PartialEq, Eq)]
 pub struct OtherField {
     pub rec: u32,
     pub field: u32,

@@ -5,7 +5,7 @@ use cc_base::{Rate, Why};
 use line21_codes::Chan;
 
 /// What has a grid: a caption channel of line 21, or a service of DTVCC.
-#[derive(Clone, Copy, Debug, PartialEq, Eq)]
+#[derive(Clone, Copy, PartialEq, Eq)]
 pub enum Which {
     /// A channel of line 21 (CTA-608-E).
     Chan(Chan),
@@ -14,7 +14,7 @@ pub enum Which {
 }
 
 /// What was found at a frame: reasons 40 to 46.
-#[derive(Clone, Copy, Debug, PartialEq, Eq)]
+#[derive(Clone, Copy, PartialEq, Eq)]
 pub enum Kind45 {
     /// The packet's counter isn't the one before plus 1 modulo 65,536 (SMPTE ST 334-2, cdp_header).
     CounterJump {
@@ -49,7 +49,7 @@ pub enum Kind45 {
 }
 
 /// What was found at which frame.
-#[derive(Clone, Copy, Debug, PartialEq, Eq)]
+#[derive(Clone, Copy, PartialEq, Eq)]
 pub struct Finding {
     /// The frame, counted from 0.
     pub frame: u32,

@@ -4,7 +4,7 @@ ghost use Rattle.findings.specs.Misfits.{misfit_name};
 use crate::finding::Which;
 
 /// Why a frame at 29.97 has no two frames at 59.94 that carry and show the same.
-#[derive(Clone, Copy, Debug, PartialEq, Eq)]
+#[derive(Clone, Copy, PartialEq, Eq)]
 pub enum MisfitKind {
     /// Its rate is another one, of this code, 1 to 8 (SMPTE ST 334-2, cdp_frame_rate).
     Rate(u8),
@@ -21,7 +21,7 @@ pub enum MisfitKind {
 }
 
 /// Which frame can't be converted, and why.
-#[derive(Clone, Copy, Debug, PartialEq, Eq)]
+#[derive(Clone, Copy, PartialEq, Eq)]
 pub struct Misfit {
     /// The frame, counted from 0.
     pub frame: u32,

@@ -12,7 +12,7 @@ use frame_scheduler::FrameBytes;
 use words_files::write_triplets;
 
 /// Carries the frames of a programme, one call a frame, in order from frame 0 on.
-#[derive(Clone, Copy, Debug)]
+#[derive(Clone, Copy)]
 pub struct Carrier {
     rate: Rate,
     counter: u16,

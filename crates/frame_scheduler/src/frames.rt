@@ -12,7 +12,7 @@ use line21_codes::{Chan, NULL_PAIR, Pair};
 use line21_slots::Cadence;
 
 /// What one frame carries.
-#[derive(Debug, Drop)]
+#[derive(Drop)]
 pub struct FrameBytes {
     /// The pair of CC1 in field 1; None where the frame has no slot of field 1.
     pub one: Option<Pair>,

@@ -26,7 +26,7 @@ use text_output::Gathered;
 use words_reading::{Judge, Packets, Reason, Stop};
 
 /// Why an insertion stops at a frame.
-#[derive(Clone, Copy, Debug, PartialEq, Eq)]
+#[derive(Clone, Copy, PartialEq, Eq)]
 pub enum Halt {
     /// It has another rate than the list.
     Found(Finding),

@@ -1,5 +1,5 @@
 /// Units of a service that stand in one frame: those behind the batch before. Frames are counted from 0.
-#[derive(Clone, Copy, Debug)]
+#[derive(Clone, Copy)]
 pub struct Batch {
     /// The frame of the units.
     pub frame: u32,

@@ -6,7 +6,7 @@ pub const MOST_LOADS: u8 = 125;
 const MOST_HELD: u8 = 127;
 
 /// The bytes of loads that may still come in a delay. Frames are counted from 0.
-#[derive(Clone, Copy, Debug, PartialEq, Eq)]
+#[derive(Clone, Copy, PartialEq, Eq)]
 pub struct Budget {
     /// The frame in which the delay starts.
     pub start: u32,

@@ -1,7 +1,7 @@
 use line21_author::Unit;
 
 /// A unit with what its cue asks of its place. Slots are counted from 0.
-#[derive(Clone, Copy, Debug, PartialEq, Eq)]
+#[derive(Clone, Copy, PartialEq, Eq)]
 pub struct FieldChunk {
     pub unit: Unit,
     /// The slot before which the unit doesn't stand.

@@ -7,7 +7,7 @@ use dtvcc_author::PackedUnits;
 use std::marker::Model;
 
 /// The units of a service in order, each seen with what its cue asks of its place; that is kept once a cue.
-#[derive(Debug, Drop)]
+#[derive(Drop)]
 pub struct ChunkList {
     units: PackedUnits,
     cues: Vec<CueLoad>,

@@ -1,5 +1,5 @@
 /// What a cue asks of the places of its units, and how many it has. Frames are counted from 0.
-#[derive(Clone, Copy, Debug)]
+#[derive(Clone, Copy)]
 pub struct CueLoad {
     /// The frame before which none of the units stands.
     pub load: u32,

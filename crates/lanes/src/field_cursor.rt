@@ -5,7 +5,7 @@ use line21_author::Event;
 use line21_codes::{NULL_PAIR, Pair};
 
 /// A place in a lane's units and events, from which the pair of each slot is given in turn.
-#[derive(Clone, Copy, Debug, PartialEq, Eq)]
+#[derive(Clone, Copy, PartialEq, Eq)]
 pub struct Cursor {
     slot: u32,
     next_unit: usize,

@@ -7,7 +7,7 @@ use crate::chunk::FieldChunk;
 use line21_author::Event;
 
 /// How far units have been placed: the first slot behind them, and how many events are over by then.
-#[derive(Clone, Copy, Debug, PartialEq, Eq)]
+#[derive(Clone, Copy, PartialEq, Eq)]
 pub struct Front {
     end: u64,
     passed: usize,

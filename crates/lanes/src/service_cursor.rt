@@ -11,7 +11,7 @@ use arrayvec::ArrayVec;
 use dtvcc_author::{Caption, Latest};
 
 /// A place in a service's captions and units, from which the bytes of each frame are given in turn.
-#[derive(Clone, Copy, Debug)]
+#[derive(Clone, Copy)]
 pub(crate) struct Cursor {
     frame: u32,
     // How many batches were given.

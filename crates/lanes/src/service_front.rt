@@ -15,7 +15,7 @@ use dtvcc_author::{Caption, Delay, Latest};
 
 /// How far units of a service have been placed: the frame that the next one is tried in, the bytes that the frame has left for
 /// units, and what is left of the delay that is on in it.
-#[derive(Clone, Copy, Debug)]
+#[derive(Clone, Copy)]
 pub(crate) struct Front {
     frame: u32,
     room: u8,

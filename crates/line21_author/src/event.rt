@@ -19,7 +19,7 @@ use std::alloc::{AllocError, Global};
 
 /// A control pair at a slot of its own, one that shows or erases captions: it is sent twice, in that slot of its field and in the
 /// next. Slots are counted from 0.
-#[derive(Clone, Copy, Debug, PartialEq, Eq)]
+#[derive(Clone, Copy, PartialEq, Eq)]
 pub struct Event {
     pub slot: u32,
     pub pair: Pair,

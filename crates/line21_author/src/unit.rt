@@ -5,7 +5,7 @@ use std::marker::Model;
 
 /// A pair to be sent in one field: a control pair is sent twice, in two slots that follow one
 /// another, and a text pair once (CTA-608-E; 47 CFR 79.101).
-#[derive(Clone, Copy, Debug, PartialEq, Eq)]
+#[derive(Clone, Copy, PartialEq, Eq)]
 pub struct Unit {
     pub pair: Pair,
     pub doubled: bool,
@@ -30,7 +30,7 @@ impl Unit {
 }
 
 /// Units in the order in which they are sent, seen as their list.
-#[derive(Debug, Drop)]
+#[derive(Drop)]
 pub struct Units {
     units: Vec<Unit>,
 }

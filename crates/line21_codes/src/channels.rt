@@ -3,7 +3,7 @@ ghost use Rattle.line21_codes.specs.Channels.{channel_name, field_of_channel, da
 
 /// A field of the picture: field 1 carries CC1 and CC2, and field 2 CC3 and CC4 (CTA-608-E; 47 CFR
 /// 79.101).
-#[derive(Clone, Copy, Debug, PartialEq, Eq)]
+#[derive(Clone, Copy, PartialEq, Eq)]
 pub enum FieldNumber {
     One,
     Two,
@@ -24,7 +24,7 @@ impl FieldNumber {
 
 /// A data channel of a field: CC1 and CC3 are data channel 1 of their field, and CC2 and CC4 data
 /// channel 2 (CTA-608-E; 47 CFR 79.101).
-#[derive(Clone, Copy, Debug, PartialEq, Eq)]
+#[derive(Clone, Copy, PartialEq, Eq)]
 pub enum DataChannel {
     One,
     Two,
@@ -45,7 +45,7 @@ impl DataChannel {
 
 /// A caption channel of line 21: CC1 and CC2 are the data channels 1 and 2 of field 1, and CC3 and
 /// CC4 those of field 2.
-#[derive(Clone, Copy, Debug, PartialEq, Eq)]
+#[derive(Clone, Copy, PartialEq, Eq)]
 pub enum Chan {
     Cc1,
     Cc2,

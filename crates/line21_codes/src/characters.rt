@@ -7,7 +7,7 @@ ghost use Rattle.line21_codes.specs.ExtendedCharacters.{extended_set, extended_o
 ghost use Rattle.line21_codes.specs.Spellings.{spelling_of, Shows, HasNoCode, basic_spelling, special_spelling, extended_spelling};
 
 /// How a character is sent.
-#[derive(Clone, Copy, Debug, PartialEq, Eq)]
+#[derive(Clone, Copy, PartialEq, Eq)]
 pub enum Spelling {
     /// A basic character, by its byte 0x20 to 0x7F in a text pair.
     Basic(u8),

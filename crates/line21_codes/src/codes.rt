@@ -4,7 +4,7 @@ ghost use Rattle.line21_codes.specs.Writable.{is_doubled};
 use crate::styles::{Colour, Style};
 
 /// What a pair of line 21 says. Its bytes are without parity, 0x00 to 0x7F.
-#[derive(Clone, Copy, Debug, PartialEq, Eq)]
+#[derive(Clone, Copy, PartialEq, Eq)]
 pub enum Code {
     /// No data.
     Null,
@@ -17,7 +17,7 @@ pub enum Code {
 }
 
 /// A control code of either data channel.
-#[derive(Clone, Copy, Debug, PartialEq, Eq)]
+#[derive(Clone, Copy, PartialEq, Eq)]
 pub enum Control {
     /// Resume caption loading, for pop-on captions.
     Rcl,

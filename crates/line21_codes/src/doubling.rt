@@ -4,7 +4,7 @@ ghost use Rattle.line21_codes.specs.declared.pairs.Pair.{Pair};
 use crate::pairs::Pair;
 
 /// Tells the repeats among the pairs of one field: control pairs are sent twice and act once.
-#[derive(Clone, Copy, Debug, PartialEq, Eq)]
+#[derive(Clone, Copy, PartialEq, Eq)]
 pub struct Doubler {
     // The pair before, where it is a control pair that was not itself a repeat.
     waiting: Option<Pair>,

@@ -2,7 +2,7 @@ ghost use Rattle.std.specs.Prelude.{◌≡◌, ◌<◌, IsTrue};
 ghost use Rattle.line21_codes.specs.Parity.{with_parity, low_bits, is_odd};
 
 /// The two bytes that line 21 carries in one field of one frame, with their parity bits.
-#[derive(Clone, Copy, Debug, Default, PartialEq, Eq)]
+#[derive(Clone, Copy, Default, PartialEq, Eq)]
 pub struct Pair {
     /// The first byte.
     pub a: u8,
@@ -37,7 +37,7 @@ impl Pair {
 }
 
 /// A byte of a pair has an even number of ones.
-#[derive(Clone, Copy, Debug, PartialEq, Eq)]
+#[derive(Clone, Copy, PartialEq, Eq)]
 pub struct BadParity;
 
 /// The byte whose low seven bits are `low`, below 128, with the eighth bit that makes the number of

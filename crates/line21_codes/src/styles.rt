@@ -2,7 +2,7 @@ ghost use Rattle.std.specs.Prelude.{◌≡◌};
 ghost use Rattle.line21_codes.specs.PenWords.{colour_word, italic_mark, underline_mark};
 
 /// A foreground colour of line 21, in the order of the mid-row and preamble codes.
-#[derive(Clone, Copy, Debug, PartialEq, Eq)]
+#[derive(Clone, Copy, PartialEq, Eq)]
 pub enum Colour {
     White,
     Green,
@@ -45,7 +45,7 @@ pub fn underline_mark(underline: bool) -> &'static str
 }
 
 /// How a character is shown.
-#[derive(Clone, Copy, Debug, PartialEq, Eq)]
+#[derive(Clone, Copy, PartialEq, Eq)]
 pub struct Style {
     pub colour: Colour,
     pub italic: bool,
@@ -53,7 +53,7 @@ pub struct Style {
 }
 
 /// A character of the caption grid, with its style.
-#[derive(Clone, Copy, Debug, PartialEq, Eq)]
+#[derive(Clone, Copy, PartialEq, Eq)]
 pub struct Cell {
     pub ch: char,
     pub style: Style,

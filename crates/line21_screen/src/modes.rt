@@ -1,5 +1,5 @@
 /// How a data channel's captions appear (CTA-608-E, 47 CFR 79.101).
-#[derive(Clone, Copy, Debug, PartialEq, Eq)]
+#[derive(Clone, Copy, PartialEq, Eq)]
 pub enum Mode {
     /// No mode was set yet.
     Off,

@@ -6,7 +6,7 @@ use line21_codes::{Chan, FieldNumber};
 
 /// In which frames the slots of a field lie. Each slot is one byte pair, and the slots of a field are counted from 0, as frames
 /// are.
-#[derive(Clone, Copy, Debug, PartialEq, Eq)]
+#[derive(Clone, Copy, PartialEq, Eq)]
 pub enum Cadence {
     /// Each frame has a slot: slot n lies in frame n.
     EveryFrame,

@@ -6,7 +6,7 @@ use cc_base::{Put, Sink, put_pieces};
 use itoa::Buffer;
 
 /// What came of a list of captions.
-#[derive(Clone, Copy, Debug, PartialEq, Eq)]
+#[derive(Clone, Copy, PartialEq, Eq)]
 pub(crate) struct Summary {
     /// The number of captions.
     pub cues: u32,

@@ -4,7 +4,7 @@ use findings::Finding;
 use words_reading::Reason;
 
 /// Why an export stops at a packet.
-#[derive(Clone, Copy, Debug, PartialEq, Eq)]
+#[derive(Clone, Copy, PartialEq, Eq)]
 pub enum MccStop {
     /// This was found at it.
     Found(Finding),

@@ -3,7 +3,7 @@ use command_base::{Place, Status};
 use words_reading::Reason;
 
 /// Why an import stops within its input.
-#[derive(Clone, Copy, Debug, PartialEq, Eq)]
+#[derive(Clone, Copy, PartialEq, Eq)]
 pub enum MccStop {
     /// Something offends.
     Offends(Refusal),

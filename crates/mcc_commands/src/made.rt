@@ -3,7 +3,7 @@ ghost use Rattle.std.specs.Prelude.{◌≤◌};
 use mcc_words::MccWords;
 
 /// The words that were made of packets.
-#[derive(Clone, Copy, Debug)]
+#[derive(Clone, Copy)]
 pub struct Made {
     pub(crate) words: MccWords,
     // How many frames they have, and how many bytes.

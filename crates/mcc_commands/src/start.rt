@@ -1,7 +1,7 @@
 use time_codes::Counting;
 
 /// Where the time codes of an MCC file start.
-#[derive(Clone, Copy, Debug, PartialEq, Eq)]
+#[derive(Clone, Copy, PartialEq, Eq)]
 pub struct Start {
     /// How they count.
     pub count: Counting,

@@ -14,7 +14,7 @@ use hex_digits::hex_value;
 pub(crate) const ROOM: usize = 259;
 
 /// What offends: the byte so many bytes before the last one, and the reason.
-#[derive(Clone, Copy, Debug, PartialEq, Eq)]
+#[derive(Clone, Copy, PartialEq, Eq)]
 pub struct Offence {
     /// How many bytes before the last one: 1 where an item of two digits offends, else 0.
     pub back: u8,
@@ -29,7 +29,7 @@ const NO_ITEM: Offence = Offence {
 };
 
 /// How many bytes a packet has so far, its count, once that has come, and the sum of the bytes, modulo 256.
-#[derive(Clone, Copy, Debug)]
+#[derive(Clone, Copy)]
 pub(crate) struct Counted {
     pub(crate) len: u16,
     pub(crate) count: u8,
@@ -99,7 +99,7 @@ fn counted_packet(bytes: &[u8]) -> Option<Counted>
 }
 
 /// An item of a payload, as its last byte ends it.
-#[derive(Debug, Drop)]
+#[derive(Drop)]
 pub struct Item {
     /// The bytes for which it stands, down to the first one with which no payload goes on.
     pub bytes: ArrayVec<u8, 27>,
@@ -108,7 +108,7 @@ pub struct Item {
 }
 
 /// A reader of a payload's text, byte by byte.
-#[derive(Debug, Drop)]
+#[derive(Drop)]
 pub struct PayloadReader {
     // the value of an open first digit
     digit: Option<u8>,

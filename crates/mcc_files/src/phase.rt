@@ -10,7 +10,7 @@ use time_codes::Counting;
 const RATE_NAME: [u8; 14] = *b"Time Code Rate";
 
 /// What of the text of a count has been read.
-#[derive(Clone, Copy, Debug)]
+#[derive(Clone, Copy)]
 pub enum RateText {
     /// Nothing.
     Empty,
@@ -65,7 +65,7 @@ impl RateText {
 }
 
 /// Where the bytes read so far have ended within the form of an MCC file.
-#[derive(Clone, Copy, Debug)]
+#[derive(Clone, Copy)]
 pub enum Phase {
     /// Behind so many bytes of the first line's text, below 31.
     First(u8),

@@ -65,7 +65,7 @@ fn behind_line_end(bytes: &[u8]) -> Option<&[u8]>
 }
 
 /// A reader of an MCC file, byte by byte, that takes no memory: the packets at their frames, or the first offence.
-#[derive(Debug, Drop)]
+#[derive(Drop)]
 pub struct MccReader {
     // where the bytes have ended within the form
     phase: Phase,

@@ -11,7 +11,7 @@ use cc_base::Rate;
 use cdp_packets::read_summed_packet;
 
 /// A packet of captions that came before.
-#[derive(Clone, Copy, Debug)]
+#[derive(Clone, Copy)]
 pub struct Before {
     /// Its frame of the day.
     pub frame: u32,
@@ -24,7 +24,7 @@ pub struct Before {
 }
 
 /// A maker of the words of an MCC file's packets, one packet after another.
-#[derive(Clone, Copy, Debug)]
+#[derive(Clone, Copy)]
 pub struct MccWords {
     before: Option<Before>,
 }

@@ -9,7 +9,7 @@ use frame_scheduler::FrameBytes;
 use words_files::write_triplets;
 
 /// Frames without captions that are missing before a packet of captions.
-#[derive(Clone, Copy, Debug)]
+#[derive(Clone, Copy)]
 pub struct MissingFrames {
     /// Their rate.
     pub rate: Rate,

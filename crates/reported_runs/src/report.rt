@@ -13,7 +13,7 @@ pub const TEXT: usize = 160;
 
 /// How a run ended: its status, the numbers that this carries, and its line. A number that the status doesn't carry is 0.
 #[repr(C)]
-#[derive(Clone, Copy, Debug, PartialEq, Eq)]
+#[derive(Clone, Copy, PartialEq, Eq)]
 pub struct Report {
     /// The code of the status, 0 to 13.
     pub status: u32,

@@ -14,7 +14,7 @@ use text_output::Gathered;
 use words_reading::{PerFrame, Reason, Stop};
 
 /// Why an export stops at a frame.
-#[derive(Clone, Copy, Debug, PartialEq, Eq)]
+#[derive(Clone, Copy, PartialEq, Eq)]
 pub enum ExportStop {
     /// This was found at it.
     Found(Finding),

@@ -2,7 +2,7 @@ use cc_base::{LimitOf, Refusal};
 use std::alloc::AllocError;
 
 /// Why bytes weren't read as an SCC file.
-#[derive(Debug, Drop)]
+#[derive(Drop)]
 pub enum SccFault {
     /// There was no memory for the pairs.
     Memory(AllocError),

@@ -5,7 +5,7 @@ use std::alloc::{AllocError, Global};
 use std::marker::Model;
 
 /// The pairs of an SCC file, seen as the list of them in order, each with its frame counted from the first line's time code.
-#[derive(Debug, Drop)]
+#[derive(Drop)]
 pub struct SccPairs {
     items: Vec<(u32, Pair)>,
 }

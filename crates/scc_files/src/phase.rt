@@ -18,7 +18,7 @@ const TAB: u8 = 0x09;
 const SPACE: u8 = 0x20;
 
 /// Where the bytes read so far have ended within the form of an SCC file.
-#[derive(Clone, Copy, Debug)]
+#[derive(Clone, Copy)]
 pub enum Phase {
     /// Behind so many bytes of the first line's text.
     First(u8),

@@ -8,7 +8,7 @@ use line21_codes::Pair;
 use time_codes::{frame_of, read_time_bytes};
 
 /// What offends: the byte so many bytes before the last one, and the reason.
-#[derive(Clone, Copy, Debug)]
+#[derive(Clone, Copy)]
 pub struct Offence {
     /// How many bytes before the last one.
     pub back: u8,
@@ -17,7 +17,7 @@ pub struct Offence {
 }
 
 /// Where pairs stand.
-#[derive(Clone, Copy, Debug)]
+#[derive(Clone, Copy)]
 pub struct Position {
     /// The frame of the day of the first time code.
     pub start: Option<u32>,
@@ -28,7 +28,7 @@ pub struct Position {
 }
 
 /// Where bytes read so far have ended, and where the next pair stands.
-#[derive(Clone, Copy, Debug)]
+#[derive(Clone, Copy)]
 pub struct Reader {
     /// Where they have ended within the form.
     pub phase: Phase,

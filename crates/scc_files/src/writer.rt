@@ -14,7 +14,7 @@ pub const HEAD: &[u8] = b"Scenarist_SCC V1.0\n\n";
 pub const PIECE: usize = 18;
 
 /// Why a writer's call gave up.
-#[derive(Clone, Copy, Debug, PartialEq, Eq)]
+#[derive(Clone, Copy, PartialEq, Eq)]
 pub enum SccPut {
     /// The sink failed; its count of faults rose, and a front of what the call puts was put.
     Fault,
@@ -24,7 +24,7 @@ pub enum SccPut {
 
 /// Writes pairs as an SCC file: the first line, and then each longest stretch of pairs on consecutive frames that aren't null as a
 /// line.
-#[derive(Clone, Copy, Debug)]
+#[derive(Clone, Copy)]
 pub struct SccWriter {
     // the frame of the day of frame 0, and whether its day counts with drop frame
     start: u32,

@@ -9,7 +9,7 @@ use cc_base::{Machine, Step, Why};
 use channel_packets::PacketPart;
 
 /// The byte of a channel packet that comes next.
-#[derive(Clone, Copy, Debug, PartialEq, Eq)]
+#[derive(Clone, Copy, PartialEq, Eq)]
 pub(crate) enum Next {
     /// The header of a block.
     Header,
@@ -22,7 +22,7 @@ pub(crate) enum Next {
 }
 
 /// What is kept of a service block while it is read: none of its bytes, only which byte comes next.
-#[derive(Clone, Copy, Debug)]
+#[derive(Clone, Copy)]
 pub(crate) struct OpenBlock {
     /// The number of bytes that the packet has left, by the last part that was taken, if there was one.
     pub(crate) left: Option<u8>,

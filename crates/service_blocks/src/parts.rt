@@ -1,5 +1,5 @@
 /// A part of the service blocks that a reader of channel packets' parts hands upward.
-#[derive(Clone, Copy, Debug, PartialEq, Eq)]
+#[derive(Clone, Copy, PartialEq, Eq)]
 pub enum BlockPart {
     /// A channel packet is missing: all services begin anew.
     Reset,

@@ -19,7 +19,7 @@ use channel_packets::PacketPart;
 /// The header of a block is refused for `Overrun` where it says more bytes than its packet has left, with the second header byte
 /// counted; or a part for the reason of the layer above. The place is the number of the part. A byte that isn't the next one of the
 /// open packet is passed over, and so is one before the first packet. The reader keeps counts, and no bytes.
-#[derive(Clone, Copy, Debug)]
+#[derive(Clone, Copy)]
 pub struct BlockReader {
     fed: Fed<OpenBlock>,
 }

@@ -4,7 +4,7 @@ use crate::time_code::TimeCode;
 
 /// How time codes count the frames of a day: at how many frames a second, and whether drop frame leaves numbers out (SMPTE
 /// ST 12-1; ST 12-3 above 30).
-#[derive(Clone, Copy, Debug, PartialEq, Eq)]
+#[derive(Clone, Copy, PartialEq, Eq)]
 pub enum Counting {
     /// 24 frames a second.
     F24,

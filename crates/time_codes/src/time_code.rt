@@ -7,7 +7,7 @@ use crate::counting::Counting;
 ///
 /// It has any eight-bit values. A time code of the day at 30 frames a second has hours below 24, minutes and seconds below 60, frames
 /// below 30, and isn't one that drop frame leaves out.
-#[derive(Clone, Copy, Debug, PartialEq, Eq)]
+#[derive(Clone, Copy, PartialEq, Eq)]
 pub struct TimeCode {
     /// Hours.
     pub h: u8,

@@ -3,7 +3,7 @@ ghost use Rattle.std.specs.Prelude.{None};
 use cc_base::{Put, Sink};
 
 /// A sink that takes all and tells nothing, for words of which nothing is put.
-#[derive(Clone, Copy, Debug)]
+#[derive(Clone, Copy)]
 pub struct Nowhere;
 
 impl Sink for Nowhere {

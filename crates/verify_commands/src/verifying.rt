@@ -12,7 +12,7 @@ use text_output::Gathered;
 use words_reading::{Judge, Reason, Stop};
 
 /// What is found at a frame: for it a verifying stops.
-#[derive(Clone, Copy, Debug, PartialEq, Eq)]
+#[derive(Clone, Copy, PartialEq, Eq)]
 pub struct Found {
     /// The frame, and what it is.
     pub finding: Finding,

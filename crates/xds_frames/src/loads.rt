@@ -11,7 +11,7 @@ use line21_codes::Chan;
 use std::alloc::{AllocError, Global};
 
 /// The times in which the cues of CC3 are loaded, looked up frame by frame.
-#[derive(Debug, Drop)]
+#[derive(Drop)]
 pub struct Loads {
     spans: Vec<Span>,
     // The first of them that may still come.

@@ -1,5 +1,5 @@
 /// The time in which a cue is loaded: from the frame of its LOAD up to that of its SHOW.
-#[derive(Clone, Copy, Debug)]
+#[derive(Clone, Copy)]
 pub struct Span {
     /// The first frame.
     pub load: u32,

@@ -1,6 +1,6 @@
 /// A packet of a list without its text: the frame that it is sent from, its class and type, and the number of its text's
 /// bytes.
-#[derive(Clone, Copy, Debug)]
+#[derive(Clone, Copy)]
 pub struct Head {
     pub from: u32,
     pub class: u8,

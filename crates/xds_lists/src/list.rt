@@ -11,7 +11,7 @@ use xds_packets::{XdsPacket, XdsText};
 
 /// A list of packets, each with the frame that it is sent from: fewer than 4,294,967,296, as a file has them. They are kept as
 /// the heads of all and the texts of all, one behind the other.
-#[derive(Debug, Drop)]
+#[derive(Drop)]
 pub struct XdsList {
     heads: Vec<Head>,
     texts: Vec<u8>,

@@ -3,7 +3,7 @@ ghost use Rattle.xds_lists.specs.Form.{IsListed};
 use xds_packets::XdsPacket;
 
 /// A packet of a list, to be sent from a frame on.
-#[derive(Debug, Drop)]
+#[derive(Drop)]
 pub struct XdsListed {
     /// The frame, 0 to 999,999.
     pub from: u32,

@@ -5,7 +5,7 @@ use crate::list::XdsList;
 use crate::sending::Sending;
 
 /// Sends the packets of a list in the free slots of field 2, in the list's order, whole packet after whole packet.
-#[derive(Debug, Drop)]
+#[derive(Drop)]
 pub struct XdsWriter {
     /// The list.
     pub(crate) list: XdsList,

@@ -5,7 +5,7 @@ ghost use Rattle.xds_packets.specs.PacketCodes.{checksum as checksum_of};
 use crate::texts::XdsText;
 
 /// A packet of extended data (CTA-608-E).
-#[derive(Debug, Drop)]
+#[derive(Drop)]
 pub struct XdsPacket {
     /// The class, 1 to 7: current programme, future programme, channel, miscellaneous, public service, reserved, private.
     pub class: u8,

@@ -3,7 +3,7 @@ ghost use Rattle.std.specs.Prelude.{◌≡◌, ◌≤◌, ◌<◌, ◌+◌, List
 use std::marker::Model;
 
 /// The text of a packet, seen as the list of its bytes, of which there are at most 32 (CTA-608-E).
-#[derive(Debug, Drop)]
+#[derive(Drop)]
 pub struct XdsText {
     bytes: [u8; 32],
     len: usize,

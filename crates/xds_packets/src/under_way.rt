@@ -7,7 +7,7 @@ use crate::packets::{XdsPacket, sum_of};
 use crate::texts::XdsText;
 
 /// The packet of a class that is under way.
-#[derive(Debug, Drop)]
+#[derive(Drop)]
 pub struct UnderWay {
     /// Its type.
     pub kind: u8,

@@ -1,5 +1,5 @@
 /// The cue that a broken alternative of a rule names beside the one that is judged.
-#[derive(Clone, Copy, Debug, PartialEq, Eq)]
+#[derive(Clone, Copy, PartialEq, Eq)]
 pub enum Against {
     /// None: the alternative speaks of the cue alone.
     Itself,
