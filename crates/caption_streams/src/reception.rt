@@ -3,7 +3,7 @@ ghost use Rattle.cc_receiver.specs.declared.receiver.Ended.TheVariants as ended;
 ghost use Rattle.cdp_packets.specs.Packets.{Frame};
 ghost use Rattle.dtvcc_services.specs.Numbers.{IsService};
 ghost use Rattle.dtvcc_windows.specs.Objects.{is_live, window_of};
-ghost use Rattle.services_files.specs.CaptionChannel.{caption_channel};
+ghost use Rattle.cc_receiver.specs.CaptionChannel.{caption_channel};
 ghost use Rattle.words_files.specs.Offences.{IsFileUnder, IsMalformed};
 
 use cc_base::Refusal;

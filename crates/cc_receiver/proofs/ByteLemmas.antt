@@ -12,7 +12,7 @@ use Rattle.cdp_packets.specs.declared.reader.CdpReader.{CdpReader}
 use Rattle.cdp_packets.specs.Readers.{HasRead}
 use Rattle.cdp_packets.specs.Reading.{cdp_syntax, judge_cdp}
 use Rattle.line21_screen.specs.Objects.{Leads}
-use Rattle.words_files.specs.Catching.{Caught, OpenCaption, packet_gone_on, taken_in, verdict_behind}
+use Rattle.services_files.specs.Catching.{Caught, OpenCaption, packet_gone_on, taken_in, verdict_behind}
 use Rattle.services_files.specs.Services.{services_say}
 use Rattle.cc_receiver.specs.declared.captions.Captions.{Captions}
 use Rattle.cc_receiver.specs.declared.channel.Channel.{Channel}

@@ -9,7 +9,7 @@ use Rattle.cc_data.specs.declared.triplet.Triplet.{Triplet}
 use Rattle.channel_packets.specs.ChannelPackets.{channel_triplets, continues_packet, starts}
 use Rattle.line21_codes.specs.declared.channels.FieldNumber.{FieldNumber}
 use Rattle.line21_codes.specs.declared.pairs.Pair.{Pair}
-use Rattle.words_files.specs.Received.{field_kind, field_pair, field_pairs}
+use Rattle.services_files.specs.Received.{field_kind, field_pair, field_pairs}
 use Rattle.cc_receiver.specs.declared.triplets.Triplets.{Triplets}
 use Rattle.cc_receiver.specs.Counting.{HasFront, NoneCounts, with_more}
 use Rattle.cc_data.specs.Triplets.{filler}

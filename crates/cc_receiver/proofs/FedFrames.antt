@@ -9,14 +9,14 @@ use Rattle.cc_receiver.specs.declared.receiver.Receiver.{Receiver}
 use Rattle.cc_receiver.proofs.ReceivedLemmas.{shown_received}
 use Rattle.cc_receiver.proofs.TakenLemmas.{frames_count}
 use Rattle.cdp_packets.specs.Packets.{Frame}
-use Rattle.words_files.specs.Frames.CarryFrames.{none}
-use Rattle.words_files.specs.FramesOf.{AreFramesOf}
-use Rattle.words_files.specs.Offences.{IsFileUnder, IsUnoffending}
-use Rattle.words_files.specs.Received.{received_grids}
+use Rattle.services_files.specs.Frames.CarryFrames.{none}
+use Rattle.services_files.specs.FramesOf.{AreFramesOf}
+use Rattle.services_files.specs.Offences.{IsFileUnder, IsUnoffending}
+use Rattle.services_files.specs.Received.{received_grids}
 use Rattle.services_files.specs.CaptionChannel.{caption_channel}
 use Rattle.services_files.proofs.ChannelFiles.{got_frames}
 use Rattle.services_files.proofs.WholeFileLemmas.{taken-carry}
-use Rattle.words_files.proofs.FramesOfLemmas.{file_frames, frames_grow}
+use Rattle.services_files.proofs.FramesOfLemmas.{file_frames, frames_grow}
 
 -- a list of one item, and one of none
 one_item : {A : Type 0} (items : List A) → length items ≡ 1 → (item : A) × (items ≡ item ∷ [])

@@ -12,7 +12,7 @@ use Rattle.anc_words.specs.Packets.{AncillaryPacket}
 use Rattle.anc_words.specs.Reading.{anc_syntax}
 use Rattle.anc_words.specs.WordsFiles.{IsWordsFile}
 use Rattle.anc_words.proofs.EndingLemmas.{ends_no_sooner}
-use Rattle.words_files.specs.Catching.{refusal_of}
+use Rattle.services_files.specs.Catching.{refusal_of}
 use Rattle.services_files.specs.Services.{services_say}
 use Rattle.cc_receiver.specs.declared.receiver.Ended.{Ended}
 use Rattle.cc_receiver.specs.declared.receiver.Ended.TheVariants as ended

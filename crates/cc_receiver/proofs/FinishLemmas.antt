@@ -11,11 +11,11 @@ use Rattle.anc_words.specs.Reading.{anc_syntax, nothing_open}
 use Rattle.anc_words.specs.WordsFiles.{IsWordsFile}
 use Rattle.anc_words.proofs.ByteLemmas.{file_is_read, what_is_read_is_file}
 use Rattle.cdp_packets.specs.Packets.{Frame}
-use Rattle.words_files.specs.Catching.{refusal_of}
+use Rattle.services_files.specs.Catching.{refusal_of}
 use Rattle.services_files.specs.Services.{services_say}
 use Rattle.services_files.specs.CaptionChannel.{caption_channel}
 use Rattle.services_files.proofs.ChannelFiles.{caught_channel, channel_caught, open_cut_short, refused_offence}
-use Rattle.words_files.specs.Offences.{FirstOffendingWord, IsFileUnder, IsMalformed}
+use Rattle.services_files.specs.Offences.{FirstOffendingWord, IsFileUnder, IsMalformed}
 use Rattle.cc_receiver.specs.declared.receiver.Receiver.{Receiver}
 use Rattle.cc_receiver.specs.Receivers.{HasReceived, receiver_refusal}
 

@@ -17,7 +17,7 @@ use Rattle.cdp_packets.proofs.BegunLemmas.{test-same}
 use Rattle.line21_codes.specs.declared.channels.FieldNumber.{FieldNumber}
 use Rattle.line21_codes.specs.declared.channels.FieldNumber.TheVariants.{One, Two}
 use Rattle.line21_codes.specs.declared.pairs.Pair.{Pair}
-use Rattle.words_files.specs.Received.{field_kind, field_pair, field_pairs}
+use Rattle.services_files.specs.Received.{field_kind, field_pair, field_pairs}
 use Rattle.cc_receiver.specs.Gathering.{Gathered, gather, gathered, one_more, pair_more}
 
 -- where there is room, one more is added

@@ -11,10 +11,10 @@ use Rattle.cdp_packets.specs.PacketParts.{packet_parts}
 use Rattle.cdp_packets.specs.PacketTriplets.{packet_triplets}
 use Rattle.cdp_packets.specs.Packets.{Frame, IsCdp}
 use Rattle.cdp_packets.specs.Sections.{AreSections}
-use Rattle.words_files.specs.Frames.{CarryFrames, none, caption, foreign}
-use Rattle.words_files.specs.FramesOf.{AreFramesOf}
-use Rattle.words_files.specs.Layers.{Layers}
-use Rattle.words_files.specs.Received.{field_pairs, received_pairs}
+use Rattle.services_files.specs.Frames.{CarryFrames, none, caption, foreign}
+use Rattle.services_files.specs.FramesOf.{AreFramesOf}
+use Rattle.services_files.specs.Layers.{Layers}
+use Rattle.services_files.specs.Received.{field_pairs, received_pairs}
 use Rattle.cc_receiver.specs.Gathering.{Gathered}
 use Rattle.cc_receiver.specs.Hearing.{heard, parts_pairs}
 use Rattle.cc_receiver.proofs.GatheredLemmas.{packet_gathered}

@@ -14,7 +14,7 @@ use Rattle.line21_screen.specs.Meaning.{after}
 use Rattle.line21_screen.proofs.LawLemmas.{null_does_nothing}
 use Rattle.cdp_packets.specs.Packets.{Frame}
 use Rattle.cdp_packets.specs.PacketTriplets.{packet_triplets}
-use Rattle.words_files.specs.Received.{field_pairs, received, received_pairs}
+use Rattle.services_files.specs.Received.{field_pairs, received, received_pairs}
 use Rattle.cc_receiver.specs.Idle.{is_idle}
 
 -- a null pair's code

@@ -3,7 +3,7 @@ use Rattle.std.specs.Prelude.{is_some}
 use Rattle.std.proofs.Common.{◌≡◌, true, List, ◌∷◌, Option, Some, None, refl, sym, subst, ◌∙◌}
 use Rattle.cdp_packets.specs.declared.reader.CdpReader.{CdpReader}
 use Rattle.cdp_packets.specs.declared.parts.CdpPart.{CdpPart}
-use Rattle.words_files.specs.Catching.{Caught, OpenCaption, ended_with, packet_ended}
+use Rattle.services_files.specs.Catching.{Caught, OpenCaption, ended_with, packet_ended}
 use Rattle.cc_receiver.specs.Gatherers.{HasGathered}
 use Rattle.cc_receiver.specs.declared.captions.Captions.{Captions}
 use Rattle.cc_receiver.specs.declared.frame.Frame.{Frame}

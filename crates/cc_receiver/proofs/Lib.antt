@@ -1,3 +1,5 @@
+pub use Rattle.services_files.proofs.ChannelFiles
+pub use Rattle.services_files.proofs.EventLemmas
 pub mod TakenLemmas
 pub mod FeedLemmas
 pub mod RefusedLemmas

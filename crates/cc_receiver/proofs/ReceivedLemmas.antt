@@ -14,12 +14,12 @@ use Rattle.line21_codes.specs.Channels.{field_of_channel, data_channel_of}
 use Rattle.line21_screen.specs.Fields.{FieldState, channel}
 use Rattle.line21_screen.specs.Meaning.{after}
 use Rattle.line21_screen.specs.Objects.{field_of}
-use Rattle.words_files.specs.Catching.{caught_in, refusal_of}
+use Rattle.services_files.specs.Catching.{caught_in, refusal_of}
 use Rattle.services_files.specs.Services.{services_say}
 use Rattle.services_files.specs.CaptionChannel.{caption_channel}
 use Rattle.services_files.proofs.ChannelFiles.{frames_caught}
-use Rattle.words_files.specs.FramesOf.{AreFramesOf}
-use Rattle.words_files.specs.Received.{field_pairs, received, received_grids, received_pairs}
+use Rattle.services_files.specs.FramesOf.{AreFramesOf}
+use Rattle.services_files.specs.Received.{field_pairs, received, received_grids, received_pairs}
 use Rattle.cc_receiver.specs.declared.receiver.Receiver.{Receiver}
 use Rattle.cc_receiver.specs.Gathering.{Gathered}
 use Rattle.cc_receiver.specs.Gatherers.{Holds}

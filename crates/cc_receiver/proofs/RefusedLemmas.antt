@@ -9,8 +9,8 @@ use Rattle.cc_base.proofs.ReadingLemmas.{reading-append}
 use Rattle.anc_words.specs.declared.parts.WordPart.{WordPart}
 use Rattle.anc_words.specs.Reading.{anc_syntax}
 use Rattle.cc_receiver.specs.declared.receiver.Receiver.{Receiver}
-use Rattle.words_files.specs.Catching.{caption_verdict, caught_of, refusal_of}
-use Rattle.words_files.specs.Offences.{FirstOffendingWord}
+use Rattle.services_files.specs.Catching.{caption_verdict, caught_of, refusal_of}
+use Rattle.services_files.specs.Offences.{FirstOffendingWord}
 use Rattle.services_files.specs.CaptionChannel.{caption_channel}
 use Rattle.services_files.specs.Services.{services_say}
 use Rattle.cc_receiver.specs.Catchers.{HasCaught}

@@ -3,12 +3,12 @@ use Rattle.std.proofs.Common.{◌≡◌, ◌∙◌, ◌+◌, ◌-◌, ◌<◌, �
 use Rattle.std.specs.Prelude.{slice_get}
 use Rattle.std.proofs.lemmas.Option.{slice_get_cases}
 use Rattle.cdp_packets.specs.Packets.{Frame}
-use Rattle.dtvcc_screen.specs.Meaning.{Event, served_after, start}
-use Rattle.dtvcc_screen.specs.Screens.{ScreenState}
-use Rattle.dtvcc_screen.specs.Shown.{grids}
+use Rattle.services_files.specs.Meaning.{Event, served_after, start}
+use Rattle.services_files.specs.Screens.{ScreenState}
+use Rattle.services_files.specs.Shown.{grids}
 use Rattle.dtvcc_services.specs.Numbers.{IsService}
 use Rattle.dtvcc_services.specs.declared.members.Member.{Member}
-use Rattle.words_files.specs.FramesOf.{AreFramesOf}
+use Rattle.services_files.specs.FramesOf.{AreFramesOf}
 use Rattle.services_files.specs.CaptionChannel.{caption_channel}
 use Rattle.cc_receiver.specs.declared.receiver.Receiver.{Receiver}
 use Rattle.cc_receiver.specs.ReceivedServices.{received_windows}

@@ -9,8 +9,8 @@ use Rattle.cdp_packets.specs.Packets.{Frame}
 use Rattle.dtvcc_services.specs.Objects.{Events, Leads}
 use Rattle.service_blocks.specs.Channels.{IsHeard}
 use Rattle.service_blocks.proofs.ChannelLemmas.{channel_heard}
-use Rattle.words_files.specs.Catching.{caught_in}
-use Rattle.words_files.specs.FramesOf.{AreFramesOf}
+use Rattle.services_files.specs.Catching.{caught_in}
+use Rattle.services_files.specs.FramesOf.{AreFramesOf}
 use Rattle.services_files.specs.Events.{frame_events, service_events}
 use Rattle.services_files.specs.Services.{services_say}
 use Rattle.services_files.specs.CarriedChannel.{file_triplets}

@@ -12,7 +12,7 @@ use Rattle.cdp_packets.specs.declared.parts.CdpPart.{CdpPart}
 use Rattle.channel_packets.specs.declared.parts.PacketPart.{PacketPart}
 use Rattle.channel_packets.specs.ChannelPackets.{channel_triplets, continues_packet, starts}
 use Rattle.channel_packets.specs.Reading.{judge_triplet, packet_syntax}
-use Rattle.dtvcc_screen.specs.Meaning.{Tick}
+use Rattle.services_files.specs.Meaning.{Tick}
 use Rattle.dtvcc_services.specs.Objects.{Events, Leads, all_ticks}
 use Rattle.dtvcc_services.specs.declared.services.Services.{Services}
 use Rattle.service_blocks.specs.declared.parts.BlockPart.{BlockPart}

@@ -9,7 +9,7 @@ use Rattle.cc_data.specs.declared.triplet.Triplet.{Triplet}
 use Rattle.channel_packets.specs.ChannelPackets.{channel_triplets, continues_packet, starts}
 use Rattle.channel_packets.specs.Readers as packets
 use Rattle.channel_packets.specs.Reading.{Open, nothing_open, open_after, packet_syntax}
-use Rattle.dtvcc_screen.specs.Meaning.{Tick}
+use Rattle.services_files.specs.Meaning.{Tick}
 use Rattle.dtvcc_services.specs.Objects.{Events, all_ticks}
 use Rattle.service_blocks.specs.Channels.{IsHeard, heard_behind}
 use Rattle.service_blocks.specs.Readers as blocks

@@ -6,8 +6,8 @@ use Rattle.dtvcc_services.specs.Numbers.{IsService}
 use Rattle.line21_codes.specs.declared.channels.Chan.{Chan}
 use Rattle.services_files.specs.CaptionChannel.{caption_channel}
 use Rattle.services_files.proofs.ChannelFiles.{got_frames}
-use Rattle.words_files.specs.FramesOf.{AreFramesOf}
-use Rattle.words_files.proofs.FramesOfLemmas.{frames_grow}
+use Rattle.services_files.specs.FramesOf.{AreFramesOf}
+use Rattle.services_files.proofs.FramesOfLemmas.{frames_grow}
 use Rattle.cc_receiver.specs.declared.receiver.Receiver.{Receiver}
 use Rattle.cc_receiver.specs.Receivers.{HasReceived, displayed_grid, frame_count}
 use Rattle.cc_receiver.specs.SeenServices.{seen_windows}

@@ -14,15 +14,15 @@ use Rattle.anc_words.specs.Readers.{HasRead, kept_refusal}
 use Rattle.anc_words.specs.Reading.{anc_syntax}
 use Rattle.cdp_packets.specs.PacketParts.{packet_parts}
 use Rattle.cdp_packets.specs.Packets.{Frame}
-use Rattle.words_files.specs.Catching.{caption_verdict, caught_in, refusal_of}
+use Rattle.services_files.specs.Catching.{caption_verdict, caught_in, refusal_of}
 use Rattle.services_files.specs.Services.{services_say}
 use Rattle.services_files.specs.CaptionChannel.{caption_channel}
 use Rattle.services_files.proofs.ChannelFiles.{bring_at_most_one, caught_channel, channel_caught, channel_or_none, ends_channel_bringing, frames_caught, got_frames, no_channel_end}
-use Rattle.words_files.specs.FramesOf.{AreFramesOf}
-use Rattle.words_files.specs.Offences.{IsFileUnder}
+use Rattle.services_files.specs.FramesOf.{AreFramesOf}
+use Rattle.services_files.specs.Offences.{IsFileUnder}
 use Rattle.anc_words.proofs.ByteLemmas.{file_is_read}
-use Rattle.words_files.proofs.FramesOfLemmas.{file_frames}
-use Rattle.words_files.proofs.OffenceLemmas.{some_or_none}
+use Rattle.services_files.proofs.FramesOfLemmas.{file_frames}
+use Rattle.services_files.proofs.OffenceLemmas.{some_or_none}
 use Rattle.cc_receiver.specs.declared.receiver.Receiver.{Receiver}
 use Rattle.cc_receiver.specs.declared.receiver.Ended.TheVariants as ended
 use Rattle.cc_receiver.specs.Catchers.{HasCaught}

@@ -13,12 +13,12 @@ use Rattle.anc_words.proofs.PacketLemmas.{IsPacketBytes-unique}
 use Rattle.anc_words.proofs.WordsFileLemmas.{IsWordsFile-append, IsWordsFile-first, IsWordsFile-one}
 use Rattle.cdp_packets.specs.PacketParts.{packet_parts}
 use Rattle.cdp_packets.specs.Packets.{Frame, IsCdp}
-use Rattle.words_files.specs.Catching.{Caught, caught_in, refusal_of}
-use Rattle.words_files.specs.Offences.{IsFileUnder}
+use Rattle.services_files.specs.Catching.{Caught, caught_in, refusal_of}
+use Rattle.services_files.specs.Offences.{IsFileUnder}
 use Rattle.services_files.specs.CaptionChannel.{caption_channel}
 use Rattle.services_files.specs.Services.{services_say}
-use Rattle.words_files.specs.Frames.{IsFileOf, none, caption}
-use Rattle.words_files.proofs.FrameLemmas.{joined}
+use Rattle.services_files.specs.Frames.{IsFileOf, none, caption}
+use Rattle.services_files.proofs.FrameLemmas.{joined}
 use Rattle.service_blocks.specs.Channels.{IsHeard}
 use Rattle.service_blocks.proofs.ChannelLemmas.{heard_channel}
 use Rattle.services_files.specs.Services.{whole_triplets}
@@ -27,7 +27,7 @@ use Rattle.services_files.proofs.WholeFileLemmas.{frames_whole}
 use Rattle.services_files.proofs.ChannelFiles.{caught_channel, channel_caught}
 use Rattle.cc_receiver.specs.Channels.{frames_parts}
 use Rattle.cc_receiver.proofs.JudgingLemmas.{packets_parts}
-use Rattle.words_files.proofs.FramesOfLemmas.{empty_file, file_front}
+use Rattle.services_files.proofs.FramesOfLemmas.{empty_file, file_front}
 use Rattle.cc_receiver.specs.declared.receiver.Receiver.{Receiver}
 use Rattle.cc_receiver.specs.declared.receiver.Ended.TheVariants as ended
 use Rattle.cc_receiver.specs.Catchers.{Keeps, with_frame}

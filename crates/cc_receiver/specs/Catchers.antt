@@ -14,7 +14,7 @@ use Rattle.line21_screen.specs.declared.field.Field.{Field}
 use Rattle.cc_receiver.specs.declared.captions.Captions.{Captions}
 use Rattle.cc_receiver.specs.declared.channel.Channel.{Channel}
 use Rattle.cc_receiver.specs.declared.frame.Frame.{Frame}
-use Rattle.words_files.specs.Catching.{Caught, OpenCaption, caught_of}
+use Rattle.services_files.specs.Catching.{Caught, OpenCaption, caught_of}
 use Rattle.services_files.specs.Services.{services_say}
 use Rattle.cc_receiver.specs.Channels.{HasTried, frames_parts}
 use Rattle.cc_receiver.specs.Hearing.{heard}

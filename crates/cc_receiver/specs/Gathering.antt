@@ -11,7 +11,7 @@ use Rattle.cdp_packets.specs.declared.parts.CdpPart.{CdpPart}
 use Rattle.cdp_packets.specs.declared.parts.CdpPart.TheVariants as part
 use Rattle.line21_codes.specs.declared.channels.FieldNumber.TheVariants.{One, Two}
 use Rattle.line21_codes.specs.declared.pairs.Pair.{Pair}
-use Rattle.words_files.specs.Received.{field_pair}
+use Rattle.services_files.specs.Received.{field_pair}
 
 -- what a packet's parts say: rate, flags, counter, the bytes of the sections, the triplets, and the pairs of both fields
 pub record Gathered : Type 0 where

@@ -7,7 +7,7 @@ use Rattle.line21_codes.specs.declared.pairs.Pair.{Pair}
 use Rattle.line21_codes.specs.NullPairs.{is_null}
 use Rattle.cdp_packets.specs.Packets.{Frame}
 use Rattle.cdp_packets.specs.PacketTriplets.{packet_triplets}
-use Rattle.words_files.specs.Received.{field_pairs}
+use Rattle.services_files.specs.Received.{field_pairs}
 
 -- the pairs of both fields are null pairs
 abbrev pub are_null : List Pair → List Pair → Bool

@@ -1,3 +1,9 @@
+pub use Rattle.dtvcc_services.specs.Numbers
+pub use Rattle.services_files.specs.CaptionChannel
+pub use Rattle.services_files.specs.CarriedChannel
+pub use Rattle.services_files.specs.Events
+pub use Rattle.services_files.specs.Said
+pub use Rattle.services_files.specs.Services
 pub mod Receiving
 pub mod Gathering
 pub mod Counting

@@ -3,9 +3,9 @@
 -- (CTA-708-E, sections 5 to 8).
 use Rattle.std.specs.Prelude.{ℕ, Bool, List, Option}
 use Rattle.cdp_packets.specs.Packets.{Frame}
-use Rattle.dtvcc_screen.specs.Cores.{CoreState}
-use Rattle.dtvcc_screen.specs.Meaning.{served_after, start}
-use Rattle.dtvcc_screen.specs.Shown.{grids}
+use Rattle.services_files.specs.Cores.{CoreState}
+use Rattle.services_files.specs.Meaning.{served_after, start}
+use Rattle.services_files.specs.Shown.{grids}
 use Rattle.dtvcc_services.specs.Filling.{is_filled}
 use Rattle.dtvcc_windows.specs.Showing.{ShownWindow}
 use Rattle.services_files.specs.Events.{frame_events, service_events}

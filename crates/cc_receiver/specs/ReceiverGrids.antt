@@ -3,7 +3,7 @@
 use Rattle.std.specs.Prelude.{◌≡◌, ℕ, List, [], ◌∷◌, ◌++◌, Option}
 use Rattle.cdp_packets.specs.Packets.{Frame}
 use Rattle.dtvcc_windows.specs.Showing.{ShownWindow}
-use Rattle.words_files.specs.FramesOf.{AreFramesOf}
+use Rattle.services_files.specs.FramesOf.{AreFramesOf}
 use Rattle.services_files.specs.CaptionChannel.{caption_channel}
 use Rattle.cc_receiver.specs.ReceivedServices.{received_windows}
 use Rattle.cc_receiver.specs.Receivers.{HasReceived}

@@ -15,7 +15,7 @@ use Rattle.line21_screen.specs.Grid.{Grid}
 use Rattle.line21_screen.specs.Objects.{field_of}
 use Rattle.line21_screen.specs.declared.field.Field.{Field}
 use Rattle.cc_receiver.specs.declared.receiver.Receiver.{Receiver}
-use Rattle.words_files.specs.Catching.{caption_verdict, caught_in}
+use Rattle.services_files.specs.Catching.{caption_verdict, caught_in}
 use Rattle.services_files.specs.Services.{services_say}
 use Rattle.cc_receiver.specs.Catchers.{HasCaught, captions_field}
 

@@ -8,7 +8,7 @@ use Rattle.cdp_packets.specs.PacketTriplets.{section_triplets}
 use Rattle.cdp_packets.specs.Sections.{AreSections}
 use Rattle.line21_codes.specs.declared.channels.FieldNumber.TheVariants.{One, Two}
 use Rattle.line21_codes.specs.declared.pairs.Pair.{Pair}
-use Rattle.words_files.specs.Received.{field_pairs}
+use Rattle.services_files.specs.Received.{field_pairs}
 use Rattle.cc_receiver.specs.declared.triplets.Triplets.{Triplets}
 
 -- none of these counts

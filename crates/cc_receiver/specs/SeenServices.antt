@@ -1,8 +1,8 @@
 -- Between crates: the program's answer stands on none of these definitions.
 -- What a viewer sees of the services of a receiver (CTA-708-E, caption windows).
 use Rattle.std.specs.Prelude.{ℕ, ◌-◌, Option, Some, None, slice_get}
-use Rattle.dtvcc_screen.specs.Objects.{screen_in}
-use Rattle.dtvcc_screen.specs.Shown.{grids}
+use Rattle.services_files.specs.Objects.{screen_in}
+use Rattle.services_files.specs.Shown.{grids}
 use Rattle.dtvcc_services.specs.declared.members.Member.{Member}
 use Rattle.dtvcc_windows.specs.Showing.{ShownWindow}
 use Rattle.cc_receiver.specs.declared.receiver.Receiver.{Receiver}

@@ -5,7 +5,7 @@ use Rattle.std.specs.Prelude.{◌≡◌, List, [], ◌∷◌, ◌++◌, length}
 use Rattle.cc_base.specs.declared.rate.Rate.{Rate}
 use Rattle.cc_data.specs.declared.triplet.Triplet.{Triplet}
 use Rattle.cdp_packets.specs.declared.parts.CdpPart.{CdpPart}
-use Rattle.dtvcc_screen.specs.Meaning.{Tick}
+use Rattle.services_files.specs.Meaning.{Tick}
 use Rattle.dtvcc_services.specs.Objects.{Events, Leads, all_ticks}
 use Rattle.service_blocks.specs.Channels.{heard_behind}
 use Rattle.services_files.specs.Events.{events_of}

@@ -3,7 +3,7 @@
 use Rattle.std.specs.Prelude.{◌≡◌, ℕ, ◌+◌, ◌<◌, ◌++◌, List, None, take}
 use Rattle.anc_words.specs.Packets.{AncillaryPacket}
 use Rattle.anc_words.specs.WordsFiles.{IsWordsFile}
-use Rattle.words_files.specs.Catching.{refusal_of}
+use Rattle.services_files.specs.Catching.{refusal_of}
 use Rattle.services_files.specs.Services.{services_say}
 use Rattle.cc_receiver.specs.declared.receiver.Receiver.{Receiver}
 use Rattle.cc_receiver.specs.declared.receiver.Ended.TheVariants as ended

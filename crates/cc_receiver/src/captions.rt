@@ -8,7 +8,7 @@ ghost use Rattle.cdp_packets.specs.WholePackets.{SaysPacket};
 ghost use Rattle.line21_codes.specs.declared.channels.FieldNumber.{FieldNumber};
 ghost use Rattle.line21_codes.specs.declared.pairs.Pair.{Pair as PairOf};
 ghost use Rattle.line21_screen.specs.Objects.{Leads};
-ghost use Rattle.words_files.specs.Catching.{Caught, caught_after, nothing_caught, packet_begun, packet_ended, taken, verdict_behind};
+ghost use Rattle.services_files.specs.Catching.{Caught, caught_after, nothing_caught, packet_begun, packet_ended, taken, verdict_behind};
 ghost use Rattle.services_files.specs.Services.{services_say};
 ghost use Rattle.cc_receiver.specs.Channels.{HasTried, frames_parts};
 ghost use Rattle.cc_receiver.specs.Gatherers.{HasGathered};
@@ -275,7 +275,7 @@ impl Captions {
 
 impl Upward<WordPart> for Captions {
     ghost use Rattle.cc_receiver.specs.Catchers.{HasCaught};
-    ghost use Rattle.words_files.specs.Catching.{caption_verdict};
+    ghost use Rattle.services_files.specs.Catching.{caption_verdict};
     ghost use Rattle.services_files.specs.Services.{services_say};
 
     ghost Took = { λ parts captions. HasCaught parts captions };

@@ -7,7 +7,7 @@ ghost use Rattle.cdp_packets.specs.Sections.{AreSections};
 ghost use Rattle.cdp_packets.specs.WholePackets.{SaysPacket};
 ghost use Rattle.line21_codes.specs.declared.channels.FieldNumber.{FieldNumber};
 ghost use Rattle.line21_codes.specs.NullPairs.{is_null};
-ghost use Rattle.words_files.specs.Received.{field_kind, field_pair, field_pairs};
+ghost use Rattle.services_files.specs.Received.{field_kind, field_pair, field_pairs};
 ghost use Rattle.cc_receiver.specs.Gathering.{Gathered, gather, pair_more, with_triplet};
 ghost use Rattle.cc_receiver.specs.Idle.{are_null};
 ghost use Rattle.cc_receiver.specs.Says.{AreOfSections};

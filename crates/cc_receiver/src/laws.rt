@@ -3,8 +3,8 @@
 ghost use Rattle.std.specs.Prelude.{◌≡◌, ◌++◌, ℕ, List, length};
 ghost use Rattle.cdp_packets.specs.Packets.{Frame as FrameOf};
 ghost use Rattle.line21_codes.specs.declared.channels.Chan.{Chan};
-ghost use Rattle.words_files.specs.FramesOf.{AreFramesOf};
-ghost use Rattle.words_files.specs.Received.{received_grids};
+ghost use Rattle.services_files.specs.FramesOf.{AreFramesOf};
+ghost use Rattle.services_files.specs.Received.{received_grids};
 ghost use Rattle.services_files.specs.CaptionChannel.{caption_channel};
 ghost use Rattle.dtvcc_services.specs.Numbers.{IsService};
 ghost use Rattle.cc_receiver.specs.ReceivedServices.{received_windows};

@@ -43,12 +43,12 @@ fn give(services: &mut Services, part: BlockPart)
 }
 
 impl Served {
-    ghost use Rattle.dtvcc_screen.specs.Screens.{empty_screen};
+    ghost use Rattle.services_files.specs.Screens.{empty_screen};
     ghost use Rattle.std.specs.Prelude.{None, IfSome, IsTrue, MatchOption, false};
-    ghost use Rattle.dtvcc_screen.specs.Meaning.{Reset};
+    ghost use Rattle.services_files.specs.Meaning.{Reset};
     ghost use Rattle.dtvcc_services.specs.Numbers.{IsService};
     ghost use Rattle.dtvcc_services.specs.Objects.{screen_at, served_now, service_behind};
-    ghost use Rattle.dtvcc_screen.specs.Shown.{LooksSame};
+    ghost use Rattle.services_files.specs.Shown.{LooksSame};
     ghost use Rattle.dtvcc_windows.specs.Objects.{is_live, window_of};
     ghost use Rattle.cc_receiver.specs.Serving.{HasServed, ServesFrames, followed_by, given_by};
 

@@ -6,7 +6,7 @@ use Rattle.cc_receiver.specs.declared.receiver.Receiver.{Receiver}
 use Rattle.cc_receiver.proofs.FedFrames.{frames_still}
 use Rattle.cdp_packets.specs.Packets.{Frame}
 use Rattle.words_files.specs.Offences.{IsFileUnder}
-use Rattle.services_files.specs.CaptionChannel.{caption_channel}
+use Rattle.cc_receiver.specs.CaptionChannel.{caption_channel}
 use Rattle.words_files.proofs.FramesOfLemmas.{file_frames, frames_of_once}
 use Rattle.findings.specs.declared.finding.Finding.{Finding}
 use Rattle.cc_verifier.specs.Findings.{AreClean, FirstFinding}

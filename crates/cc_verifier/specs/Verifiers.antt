@@ -20,7 +20,7 @@ use Rattle.cc_verifier.specs.WindowTurns.{AreAllInTurn}
 use Rattle.words_files.specs.FramesOf.{AreFramesOf}
 use Rattle.words_files.specs.Offences.{IsFileUnder, IsMalformed}
 use Rattle.words_files.specs.Received.{received_grids}
-use Rattle.services_files.specs.CaptionChannel.{caption_channel}
+use Rattle.cc_receiver.specs.CaptionChannel.{caption_channel}
 use Rattle.cc_verifier.specs.Findings.{AreClean, FirstFinding, IsClean, IsFound, place_of}
 use Rattle.cc_verifier.specs.declared.verifier.Verdict.{Verdict}
 use Rattle.cc_verifier.specs.declared.verifier.Verdict.TheVariants as verdict

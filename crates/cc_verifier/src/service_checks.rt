@@ -10,7 +10,7 @@ ghost use Rattle.cc_verifier.specs.WindowPlaces.{IsAuthoredBy};
 ghost use Rattle.cc_verifier.specs.WindowSeen.{IsFormedCue};
 ghost use Rattle.cc_verifier.specs.WindowTurns.{AreAllInTurn};
 ghost use Rattle.words_files.specs.FramesOf.{AreFramesOf};
-ghost use Rattle.services_files.specs.CaptionChannel.{caption_channel};
+ghost use Rattle.cc_receiver.specs.CaptionChannel.{caption_channel};
 ghost use Rattle.cc_verifier.specs.Differing.{AllSeenWindows, ShowsItsWindows, ShowsOtherWindow};
 ghost use Rattle.cc_verifier.specs.Services.{IsFirstOtherService, KnowServices, StandAt};
 

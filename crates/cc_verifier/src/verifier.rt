@@ -7,7 +7,7 @@ ghost use Rattle.cc_verifier.specs.Findings.{AreClean, Tried};
 ghost use Rattle.line21_screen.specs.Grid.{Grid as GridOf};
 ghost use Rattle.words_files.specs.FramesOf.{AreFramesOf};
 ghost use Rattle.words_files.specs.Offences.{IsFileUnder};
-ghost use Rattle.services_files.specs.CaptionChannel.{caption_channel};
+ghost use Rattle.cc_receiver.specs.CaptionChannel.{caption_channel};
 
 use crate::{ChannelChecks, ServiceChecks};
 use cc_base::Refusal;

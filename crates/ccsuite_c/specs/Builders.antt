@@ -5,9 +5,9 @@ use Rattle.caption_streams.specs.Builders.{Begins, IsBuilding, frames_to_come, p
 use Rattle.caption_streams.specs.declared.building.Building.{Building}
 use Rattle.command_base.specs.declared.status.Status.{Status}
 use Rattle.command_base.specs.declared.status.Status.TheVariants as status
-use Rattle.cue_list_commands.specs.Accepted.{IsRefused}
+use Rattle.caption_streams.specs.Accepted.{IsRefused}
 use Rattle.cue_lists.specs.Listing.{Listing}
-use Rattle.frame_scheduler.specs.Planned.{Placement}
+use Rattle.caption_streams.specs.Planned.{Placement}
 use Rattle.reported_runs.specs.Reports.{report_of}
 use Rattle.reported_runs.specs.declared.report.Report.{Report}
 use Rattle.ccsuite_c.specs.Codes.{end_code, room_code}

@@ -12,8 +12,8 @@ use Rattle.cc_receiver.specs.declared.receiver.Fed.{Fed}
 use Rattle.cdp_packets.specs.Packets.{Frame}
 use Rattle.dtvcc_services.specs.Numbers.{IsService}
 use Rattle.dtvcc_windows.specs.Windows.{WindowState}
-use Rattle.grid_print.specs.GridTexts.{all_text, changes_text}
-use Rattle.grid_print.specs.Screens.{LookAlike}
+use Rattle.caption_streams.specs.GridTexts.{all_text, changes_text}
+use Rattle.caption_streams.specs.Screens.{LookAlike}
 use Rattle.line21_codes.specs.declared.channels.Chan.{Chan}
 use Rattle.line21_screen.specs.Grid.{empty_grid}
 use Rattle.services_files.specs.CaptionChannel.{caption_channel}

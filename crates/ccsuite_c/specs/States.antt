@@ -7,7 +7,7 @@ use Rattle.caption_streams.specs.Verifications.{verifier_of}
 use Rattle.caption_streams.specs.declared.building.Building.{Building}
 use Rattle.caption_streams.specs.declared.receiving.Receiving.{Receiving}
 use Rattle.caption_streams.specs.declared.verifying.Verifying.{Verifying}
-use Rattle.cc_verifier.specs.Verifiers.{HasVerified}
+use Rattle.caption_streams.specs.Verifiers.{HasVerified}
 use Rattle.ccsuite_c.specs.declared.state.State.{State}
 use Rattle.ccsuite_c.specs.declared.state.State.TheVariants as held
 

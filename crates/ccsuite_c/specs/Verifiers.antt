@@ -7,7 +7,7 @@ use Rattle.caption_streams.specs.declared.verifying.Verifying.{Verifying}
 use Rattle.cc_receiver.specs.declared.receiver.Fed.{Fed}
 use Rattle.command_base.specs.declared.status.Status.{Status}
 use Rattle.command_base.specs.declared.status.Status.TheVariants as status
-use Rattle.cue_list_commands.specs.Accepted.{IsRefusedList}
+use Rattle.caption_streams.specs.Accepted.{IsRefusedList}
 use Rattle.reported_runs.specs.Reports.{report_of}
 use Rattle.reported_runs.specs.declared.report.Report.{Report}
 use Rattle.ccsuite_c.specs.Codes.{found_code}

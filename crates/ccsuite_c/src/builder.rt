@@ -1,6 +1,6 @@
 ghost use Rattle.std.specs.Prelude.{◌≡◌, ◌≤◌, ℕ, None, Some, IfErr, IfOk, length};
 ghost use Rattle.cue_lists.specs.Listing.{Listing};
-ghost use Rattle.frame_scheduler.specs.Planned.{Placement};
+ghost use Rattle.caption_streams.specs.Planned.{Placement};
 ghost use Rattle.caption_streams.specs.Builders.{Begins, IsBuilding, frames_to_come};
 ghost use Rattle.caption_streams.specs.declared.building.Building.{Building as BuildingOf};
 ghost use Rattle.ccsuite_c.specs.Builders.{NextAnswer, Opening, OverAnswer, Refuses};

@@ -1,17 +1,15 @@
 ghost use Rattle.std.specs.Prelude.{◌≡◌, ◌≤◌, ◌<◌, ◌⊎◌, [], true, false, IfSome, Some};
-ghost use Rattle.ccsuite_cli.specs.declared.command.Command.TheVariants as command;
+ghost use Rattle.reported_runs.specs.Command.TheVariants as command;
 ghost use Rattle.command_base.specs.declared.status.Status.TheVariants as status;
-ghost use Rattle.load_commands.specs.LoadList.{most_load};
+ghost use Rattle.reported_runs.specs.LoadList.{most_load};
 ghost use Rattle.reported_runs.specs.Memory.{RunsInMemory};
 ghost use Rattle.reported_runs.specs.Reports.{report_of};
 ghost use Rattle.time_codes.specs.TimeCodes.{is_time_code};
 ghost use Rattle.time_codes.specs.declared.counting.Counting.{Counting as Count};
 ghost use Rattle.ccsuite_c.specs.Calls.{CountsSo, IsMccStart, counting_at, start_of};
 
-use ccsuite_cli::Command;
 use command_base::Status;
-use load_commands::MOST_LOAD;
-use reported_runs::{Report, report_of, run_in_memory};
+use reported_runs::{Command, MOST_LOAD, Report, report_of, run_in_memory};
 use std::alloc::Global;
 use time_codes::{Counting, TimeCode, frame_of};
 

@@ -1,7 +1,7 @@
 ghost use Rattle.std.specs.Prelude.{◌≡◌, ℕ, List, None, Some, IfErr, IfOk};
 ghost use Rattle.caption_streams.specs.Verifications.{BeginsVerifying, verifier_of};
 ghost use Rattle.caption_streams.specs.declared.verifying.Verifying.{Verifying as VerifyingOf};
-ghost use Rattle.cc_verifier.specs.Verifiers.{HasVerified};
+ghost use Rattle.caption_streams.specs.Verifiers.{HasVerified};
 ghost use Rattle.ccsuite_c.specs.Codes.{closed_code};
 ghost use Rattle.ccsuite_c.specs.Handles.{HasNoVerifier, state_in};
 ghost use Rattle.ccsuite_c.specs.States.{IsNoVerifier, WasFed};

@@ -4,7 +4,7 @@ use Rattle.std.proofs.lemmas.List.Elements.{All-head, All-tail}
 use Rattle.cc_base.specs.Rate.{triplets_in_frame}
 use Rattle.cc_base.specs.declared.rate.Rate.{Rate}
 use Rattle.cc_receiver.specs.ReceivedServices.{fills_in, received_windows}
-use Rattle.cc_verifier.specs.Findings.{AreClean, IsClean, Jumps, Miscounts}
+use Rattle.verify_commands.specs.Findings.{AreClean, IsClean, Jumps, Miscounts}
 use Rattle.cdp_packets.specs.Packets.{Frame}
 use Rattle.cdp_packets.specs.PacketTriplets.{packet_triplets}
 use Rattle.cue_lists.proofs.ChannelCues.{same_channel_is}
@@ -22,19 +22,19 @@ use Rattle.findings.specs.declared.finding.Kind45.TheVariants as kind
 use Rattle.findings.specs.declared.finding.Which.TheVariants as which
 use Rattle.frame_carrier.specs.Carried.{AreCarried}
 use Rattle.frame_carrier.specs.Carrying.{channel_packet_of, column_packets, frame_packet}
-use Rattle.frame_scheduler.specs.Columns.{Columns}
+use Rattle.frame_carrier.specs.Columns.{Columns}
 use Rattle.line21_codes.specs.declared.channels.FieldNumber.TheVariants.{One, Two}
 use Rattle.line21_codes.specs.declared.channels.Chan.{Chan}
 use Rattle.line21_codes.specs.declared.channels.Chan.TheVariants.{Cc1, Cc2, Cc3, Cc4}
 use Rattle.line21_screen.specs.Grid.{Grid}
-use Rattle.line21_shown.specs.Shown.{ShowsList}
-use Rattle.cc_verifier.specs.Differing.{ShowsOther, ShowsOtherWindow}
+use Rattle.cue_list_commands.specs.Shown.{ShowsList}
+use Rattle.verify_commands.specs.Differing.{ShowsOther, ShowsOtherWindow}
 use Rattle.services_files.specs.Events.{service_events}
-use Rattle.services_shown.specs.Buffers.{BuffersNeverFill}
-use Rattle.services_shown.specs.SeenWindows.{ShowAuthoredWindows}
-use Rattle.services_shown.proofs.ToldLemmas.{packets_count}
+use Rattle.cue_list_commands.specs.Buffers.{BuffersNeverFill}
+use Rattle.cue_list_commands.specs.SeenWindows.{ShowAuthoredWindows}
+use Rattle.cue_list_commands.proofs.ToldLemmas.{packets_count}
 use Rattle.dtvcc_screen.specs.Meaning.{start}
-use Rattle.windows_shown.specs.Filling.{AllFill}
+use Rattle.converted_lists.specs.Filling.{AllFill}
 use Rattle.words_files.specs.Received.{received_at, received_grids}
 use Rattle.ccsuite_cli.proofs.FilledLemmas.{none_filled}
 use Rattle.ccsuite_cli.proofs.SeenLemmas.{front_is}

@@ -8,7 +8,7 @@ use Rattle.cdp_packets.specs.PacketTriplets.{packet_triplets}
 use Rattle.dtvcc_screen.specs.Cores.{fill}
 use Rattle.dtvcc_screen.specs.Meaning.{Byte, Event, Reset, Served, Tick, on_event, served_after, start}
 use Rattle.dtvcc_services.specs.Filling.{is_filled}
-use Rattle.windows_shown.specs.Filling.{AllFill}
+use Rattle.converted_lists.specs.Filling.{AllFill}
 use Rattle.dtvcc_screen.proofs.MeaningLemmas.{after_append}
 use Rattle.services_files.specs.Events.{events_behind, frame_events, service_events}
 use Rattle.services_files.specs.CarriedChannel.{file_triplets}

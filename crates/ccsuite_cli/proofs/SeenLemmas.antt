@@ -3,21 +3,21 @@
 use Rattle.std.proofs.Common.{◌≡◌, ◌∙◌, ◌++◌, ◌∷◌, ◌+◌, ◌<◌, false, add-one, ap, append_assoc, arith, length, length-append, refl, subst, suc, sym, take, ℕ, List, []}
 use Rattle.std.proofs.lemmas.List.{take-append-le, take_all}
 use Rattle.cdp_packets.specs.Packets.{Frame}
-use Rattle.frame_scheduler.specs.Planned.{Placement, columns_of}
+use Rattle.frame_carrier.specs.Planned.{Placement, columns_of}
 use Rattle.line21_codes.specs.declared.channels.Chan.{Chan}
 use Rattle.line21_codes.specs.declared.channels.Chan.TheVariants.{Cc1, Cc2, Cc3, Cc4}
 use Rattle.words_files.specs.Offences.{IsFileUnder}
 use Rattle.words_files.specs.FramesOf.{AreFramesOf}
 use Rattle.words_files.specs.Received.{received_grids}
 use Rattle.words_files.proofs.FramesOfLemmas.{file_frames, frames_grow, frames_of_once}
-use Rattle.services_shown.proofs.ToldLemmas.{packets_count}
+use Rattle.cue_list_commands.proofs.ToldLemmas.{packets_count}
 use Rattle.cc_receiver.specs.ReceivedServices.{fills_in, received_windows}
 use Rattle.cc_receiver.proofs.ReceivedLemmas.{shown_received}
 use Rattle.cc_receiver.proofs.SeenLemmas.{windows_received}
 use Rattle.cc_receiver.proofs.TakenLemmas.{frames_count}
 use Rattle.dtvcc_screen.specs.Meaning.{start}
 use Rattle.dtvcc_services.specs.Numbers.{IsService}
-use Rattle.windows_shown.specs.Filling.{AllFill}
+use Rattle.converted_lists.specs.Filling.{AllFill}
 use Rattle.services_files.specs.Events.{service_events}
 use Rattle.services_files.specs.CaptionChannel.{caption_channel}
 use Rattle.services_files.proofs.ChannelFiles.{got_frames}
@@ -30,13 +30,13 @@ use Rattle.cc_receiver.specs.SeenServices.{seen_windows}
 use Rattle.cc_receiver.specs.declared.receiver.Receiver.{Receiver}
 use Rattle.dual_commands.proofs.SoundLemmas.{sound_dual}
 use Rattle.dual_commands.specs.DualWords.{dual_framing}
-use Rattle.dual_plans.specs.DualShown.{dual_grids, dual_told}
+use Rattle.dual_commands.specs.DualShown.{dual_grids, dual_told}
 use Rattle.frame_carrier.specs.Framing.{packets_of, words_of}
 use Rattle.insert_commands.proofs.SoundLemmas.{insertions_sound}
 use Rattle.insert_commands.specs.Soundness.{HaveCaptions}
 use Rattle.insert_commands.specs.Soundness.HaveCaptions.{none, more}
-use Rattle.services_shown.specs.Buffers.{BuffersNeverFill}
-use Rattle.services_shown.specs.Showing.{Grids, ShowsFrames, Telling, WindowsShown}
+use Rattle.cue_list_commands.specs.Buffers.{BuffersNeverFill}
+use Rattle.cue_list_commands.specs.Showing.{Grids, ShowsFrames, Telling, WindowsShown}
 use Rattle.ccsuite_cli.specs.Seen.{BuiltWordsAreSeen, DualWordsAreSeen, InsertedWordsAreSeen, IsSeenAsAuthored}
 use Rattle.ccsuite_cli.proofs.FilledLemmas.{none_filled}
 

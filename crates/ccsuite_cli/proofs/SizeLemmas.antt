@@ -6,7 +6,7 @@ use Rattle.frame_carrier.specs.Carried.{AreRoomy}
 use Rattle.frame_carrier.specs.Carrying.{channel_packet_of, column_bytes, frame_bytes}
 use Rattle.frame_carrier.specs.FrameTriplets.{frame_triplets}
 use Rattle.frame_carrier.proofs.CarryingLemmas.{frame_number, triplets_many}
-use Rattle.frame_scheduler.specs.Columns.{Columns}
+use Rattle.frame_carrier.specs.Columns.{Columns}
 use Rattle.words_files.proofs.CarriedWordsLemmas.{length-carried_triplets}
 
 -- the packets of so many frames

@@ -4,21 +4,21 @@ use Rattle.cue_lists.specs.Listing.{IsFormed, Listing}
 use Rattle.cue_lists.specs.declared.lane.Lane.TheVariants.{Service}
 use Rattle.frame_carrier.specs.Carried.{AreRoomy}
 use Rattle.frame_carrier.specs.Carrying.{column_bytes, column_packets}
-use Rattle.frame_scheduler.specs.Columns.{Columns}
-use Rattle.frame_scheduler.specs.Planned.{columns_of}
+use Rattle.frame_carrier.specs.Columns.{Columns}
+use Rattle.frame_carrier.specs.Planned.{columns_of}
 use Rattle.line21_codes.specs.declared.channels.Chan.TheVariants.{Cc1, Cc2, Cc3, Cc4}
 use Rattle.line21_codes.specs.declared.channels.FieldNumber.TheVariants.{One, Two}
-use Rattle.line21_shown.specs.Shown.{ShowsList}
-use Rattle.services_shown.proofs.RoomLemmas.{frames_roomy}
-use Rattle.services_shown.proofs.ToldLemmas.{packets_count}
-use Rattle.services_shown.specs.Showing.{ShowsFrames}
-use Rattle.services_shown.specs.Sound.{IsSoundFrames}
+use Rattle.cue_list_commands.specs.Shown.{ShowsList}
+use Rattle.cue_list_commands.proofs.RoomLemmas.{frames_roomy}
+use Rattle.cue_list_commands.proofs.ToldLemmas.{packets_count}
+use Rattle.cue_list_commands.specs.Showing.{ShowsFrames}
+use Rattle.cue_list_commands.specs.Sound.{IsSoundFrames}
 use Rattle.verify_commands.specs.VerifyVerdict.{AreVerified}
 use Rattle.words_files.specs.Received.{received_at}
 use Rattle.cue_list_commands.specs.Output.{PlacedList, list_grids, list_told, list_windows}
 use Rattle.cue_list_commands.proofs.Outputs.{sound_words}
-use Rattle.xds_frames.proofs.XdsLemmas.{packets_leave_sound}
-use Rattle.xds_frames.specs.XdsFrames.{AreSendable, IsSoundBeside, xds_columns}
+use Rattle.xds_commands.proofs.XdsLemmas.{packets_leave_sound}
+use Rattle.xds_commands.specs.XdsFrames.{AreSendable, IsSoundBeside, xds_columns}
 use Rattle.xds_commands.proofs.MadeLemmas.{listed_packets}
 use Rattle.xds_commands.proofs.SoundLemmas.{sound_placed}
 use Rattle.xds_commands.specs.XdsWords.{IsSoundXds}

@@ -4,13 +4,13 @@ use Rattle.std.specs.Prelude.{◌≤◌, ℕ, List, length}
 use Rattle.cdp_packets.specs.Packets.{Frame}
 use Rattle.converted_lists.specs.ConvertedLists.{HasShortDelays}
 use Rattle.cue_lists.specs.Listing.{Listing}
-use Rattle.frame_scheduler.specs.Planned.{Placement}
-use Rattle.rate_convert.specs.Misfits.{AreFit}
+use Rattle.frame_carrier.specs.Planned.{Placement}
+use Rattle.convert_commands.specs.Misfits.{AreFit}
 use Rattle.services_files.specs.CaptionChannel.{caption_channel}
 use Rattle.words_files.specs.Offences.{IsFileUnder}
 use Rattle.cue_list_commands.specs.Accepted.{IsAccepted}
 use Rattle.cue_list_commands.specs.Output.{build_output}
-use Rattle.words_reading.specs.Causes.{words_limit}
+use Rattle.convert_commands.specs.Causes.{words_limit}
 
 -- the bytes are a words file within the limit, none of whose frames has a misfit
 pub record AreFitWords (bytes : List ℕ) : Type 0 where

@@ -1,3 +1,4 @@
+pub use Rattle.load_commands.specs.LoadList
 pub mod Answer
 pub mod Command
 pub mod Converted

@@ -11,7 +11,7 @@ use Rattle.cdp_packets.specs.Packets.{Frame}
 use Rattle.cue_lists.specs.AuthoredGrid.{IsSettled, authored_grid, blank}
 use Rattle.cue_lists.specs.Listing.{Listing}
 use Rattle.dtvcc_services.specs.Numbers.{IsService}
-use Rattle.frame_scheduler.specs.Planned.{Placement}
+use Rattle.frame_carrier.specs.Planned.{Placement}
 use Rattle.line21_codes.specs.declared.channels.Chan.TheVariants.{Cc1, Cc2, Cc3, Cc4}
 use Rattle.words_files.specs.FramesOf.{AreFramesOf}
 use Rattle.services_files.specs.CaptionChannel.{caption_channel}

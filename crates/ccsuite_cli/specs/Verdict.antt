@@ -6,7 +6,7 @@ use Rattle.cc_base.specs.Streams.{Rose}
 use Rattle.cc_base.specs.declared.refusal.Refusal.{Refusal}
 use Rattle.cdp_packets.specs.Packets.{Frame}
 use Rattle.cue_lists.specs.Listing.{Listing}
-use Rattle.frame_scheduler.specs.Planned.{Placement}
+use Rattle.frame_carrier.specs.Planned.{Placement}
 use Rattle.words_files.specs.Offences.{IsFileUnder, IsMalformed}
 use Rattle.services_files.specs.CaptionChannel.{caption_channel}
 use Rattle.command_base.specs.Counts.{IsReadOf}
@@ -15,8 +15,8 @@ use Rattle.command_base.specs.declared.status.Place.TheVariants.{Byte}
 use Rattle.command_base.specs.declared.status.Status.{Status}
 use Rattle.command_base.specs.declared.status.Status.TheVariants as status
 use Rattle.cue_list_commands.specs.Accepted.{IsAccepted, IsGoodList, IsRefused, IsRefusedList}
-use Rattle.words_reading.specs.Answers.{IsPastLimit}
-use Rattle.words_reading.specs.Causes.{words_limit}
+use Rattle.convert_commands.specs.Answers.{IsPastLimit}
+use Rattle.convert_commands.specs.Causes.{words_limit}
 use Rattle.words_commands.specs.WordsVerdict.{IsShown}
 use Rattle.scc_commands.specs.Import.{IsImport, IsRefusedImport, PlacedPairs}
 use Rattle.cue_list_commands.specs.SideEnds.{SideEnds}

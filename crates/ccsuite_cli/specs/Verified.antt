@@ -2,7 +2,7 @@
 -- From the words that `build` puts of a cue list, and `xds` with packets, to their verifying: they are verified against that list.
 use Rattle.std.specs.Prelude.{ℕ, List}
 use Rattle.cue_lists.specs.Listing.{Listing}
-use Rattle.frame_scheduler.specs.Planned.{Placement}
+use Rattle.frame_carrier.specs.Planned.{Placement}
 use Rattle.cue_list_commands.specs.Accepted.{IsAccepted}
 use Rattle.cue_list_commands.specs.Output.{build_output}
 use Rattle.frame_carrier.specs.Framing.{words_of}

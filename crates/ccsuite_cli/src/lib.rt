@@ -7,6 +7,7 @@ pub use crate::standard_streams::start;
 pub use crate::status_line::put_status;
 pub use crate::unread_words::run_without_words;
 pub use command_base::{Place, SideFile, Status};
+pub use load_commands::MOST_LOAD;
 
 mod command;
 mod finding_line;

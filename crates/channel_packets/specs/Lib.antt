@@ -1,3 +1,4 @@
+pub use Rattle.cc_data.specs.declared.triplet.Triplet
 pub mod ChannelPackets
 pub mod PacketParts
 pub mod Reading

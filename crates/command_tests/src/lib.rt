@@ -2,14 +2,6 @@
 #![tactic(auto)]
 
 #[cfg(test)]
-mod building;
-#[cfg(test)]
-mod dual_runs;
-#[cfg(test)]
-mod load_runs;
-#[cfg(test)]
-mod loads;
-#[cfg(test)]
 mod mcc_runs;
 #[cfg(test)]
 mod reports;

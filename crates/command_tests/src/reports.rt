@@ -1,9 +1,8 @@
 use cc_base::{LimitOf, Rate, Why};
-use ccsuite_cli::Command;
 use command_base::{Place, Status};
 use findings::{Finding, Kind45, Misfit, MisfitKind, Which};
 use line21_codes::Chan;
-use reported_runs::{Report, TEXT, report_of, run_in_memory};
+use reported_runs::{Command, Report, TEXT, report_of, run_in_memory};
 use std::process::Abort;
 
 /// A report with no number and no line.

@@ -4,7 +4,7 @@ use Rattle.std.specs.List.{cons_option}
 use Rattle.std.proofs.lemmas.List.Elements.{All-head, All-tail}
 use Rattle.cc_base.specs.declared.rate.Rate.{Rate}
 use Rattle.cc_base.specs.declared.rate.Rate.TheVariants.{F2997}
-use Rattle.cc_receiver.specs.ReceivedServices.{received_windows}
+use Rattle.rate_convert.specs.ReceivedServices.{received_windows}
 use Rattle.cdp_packets.specs.Packets.{Frame}
 use Rattle.cue_lists.specs.Listing.{IsFormed, Listing}
 use Rattle.cue_lists.specs.Rules.{IsRuled}
@@ -18,15 +18,15 @@ use Rattle.dtvcc_author.specs.declared.caption.Caption.{Caption}
 use Rattle.dtvcc_author.specs.declared.frame_events.Delay.{Delay}
 use Rattle.dtvcc_author.proofs.LatestLemmas.{Has}
 use Rattle.dtvcc_screen.specs.Meaning.{Event, start}
-use Rattle.windows_shown.specs.ServiceLanes.{Lane, lane_frame_bytes, lane_frame_events}
-use Rattle.windows_shown.proofs.CaptionLanesLemmas.{starting}
-use Rattle.frame_carrier.specs.Carrying.{column_packets}
-use Rattle.frame_scheduler.specs.Planned.{Placement, columns_of}
+use Rattle.services_shown.specs.ServiceLanes.{Lane, lane_frame_bytes, lane_frame_events}
+use Rattle.services_shown.proofs.CaptionLanesLemmas.{starting}
+use Rattle.services_shown.specs.Carrying.{column_packets}
+use Rattle.frame_carrier.specs.Planned.{Placement, columns_of}
 use Rattle.rate_convert.specs.HalvedFrames.{AllHalves}
 use Rattle.services_shown.specs.PlacedServices.{AreServicesPlaced}
 use Rattle.services_shown.specs.Told.{told}
 use Rattle.services_shown.proofs.LeadingLemmas.{front_told, lane_is_sound, told_fills}
-use Rattle.windows_shown.specs.AuthoredShown.{list_lane}
+use Rattle.services_shown.specs.AuthoredShown.{list_lane}
 use Rattle.converted_lists.specs.SoundLanes.{lane_events}
 use Rattle.rate_convert.specs.GoodStreams.{IsGoodStream}
 use Rattle.rate_convert.specs.HalvedServices.{AreGood}

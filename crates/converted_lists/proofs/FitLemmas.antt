@@ -7,17 +7,17 @@ use Rattle.cc_base.specs.Rate.{triplets_in_frame}
 use Rattle.cc_base.specs.declared.rate.Rate.{Rate}
 use Rattle.cc_base.specs.declared.rate.Rate.TheVariants.{F2997}
 use Rattle.cc_data.specs.declared.triplet.Triplet.{Triplet}
-use Rattle.cc_receiver.specs.ReceivedServices.{received_windows}
+use Rattle.rate_convert.specs.ReceivedServices.{received_windows}
 use Rattle.cdp_packets.specs.PacketTriplets.{packet_triplets}
 use Rattle.cdp_packets.specs.Packets.{Frame}
 use Rattle.cue_lists.specs.Listing.{IsFormed, Listing}
 use Rattle.cue_lists.specs.Rules.{IsRuled}
 use Rattle.cue_lists.specs.Shares.{share_room}
-use Rattle.frame_carrier.specs.Carried.{AreCarried}
-use Rattle.frame_carrier.specs.Carrying.{channel_packet_of, column_packets, frame_packet, packets_before}
-use Rattle.frame_carrier.proofs.CarryingLemmas.{packet_few}
-use Rattle.frame_scheduler.specs.Columns.{Columns, pair_in}
-use Rattle.frame_scheduler.specs.Planned.{Placement, columns_of}
+use Rattle.services_shown.specs.Carried.{AreCarried}
+use Rattle.services_shown.specs.Carrying.{channel_packet_of, column_packets, frame_packet, packets_before}
+use Rattle.services_shown.proofs.CarryingLemmas.{packet_few}
+use Rattle.frame_carrier.specs.Columns.{Columns, pair_in}
+use Rattle.frame_carrier.specs.Planned.{Placement, columns_of}
 use Rattle.rate_convert.specs.Conversion.{IsConvertible, conversion, is_of, of_field}
 use Rattle.rate_convert.specs.HalvedFrames.{AllHalves}
 use Rattle.rate_convert.proofs.ConvertedLemmas.{converted_halves}

@@ -7,7 +7,7 @@ use Rattle.dtvcc_screen.specs.declared.clock.Clock.{Clock}
 use Rattle.dtvcc_screen.specs.Cores.{CoreState, acted_if, after_tick, arrived, arrived_in, clean, held_more, is_cancel, is_due, is_reset, released}
 use Rattle.dtvcc_screen.specs.Meaning.{Byte, Event, Reset, Served, Tick, on_event, start}
 use Rattle.rate_convert.specs.HalvedServices.{AreGood, IsGood}
-use Rattle.windows_shown.specs.Filling.{AllFill}
+use Rattle.services_shown.specs.Filling.{AllFill}
 use Rattle.rate_convert.specs.GoodStreams.{IsGoodStream}
 use Rattle.converted_lists.specs.FilledStreams.{StreamsAreGood}
 use Rattle.rate_convert.proofs.HalvedServiceLemmas.{all_open}

@@ -11,8 +11,8 @@ use Rattle.dtvcc_codes.specs.declared.commands.Command.{Command}
 use Rattle.dtvcc_codes.specs.declared.commands.Command.TheVariants.{Dsw, Dly, Dlc, Rst}
 use Rattle.dtvcc_codes.specs.Reading.{completions, open_after, spelled_command, told_size}
 use Rattle.dtvcc_screen.specs.Meaning.{Byte, Event, Reset, Tick}
-use Rattle.windows_shown.specs.ServiceLanes.{Lane, lane_frame_bytes, lane_frame_events}
-use Rattle.windows_shown.specs.Soundness.{ArePlain, IsPlainOrNone, IsSoundLane}
+use Rattle.services_shown.specs.ServiceLanes.{Lane, lane_frame_bytes, lane_frame_events}
+use Rattle.services_shown.specs.Soundness.{ArePlain, IsPlainOrNone, IsSoundLane}
 use Rattle.rate_convert.specs.HalvedServices.{IsGood}
 use Rattle.converted_lists.specs.SoundLanes.{SoundLanesAreGood, lane_events}
 use Rattle.rate_convert.specs.GoodStreams.{IsGoodStream}

@@ -8,8 +8,8 @@ use Rattle.cue_lists.specs.Rules.{IsRuled}
 use Rattle.cue_lists.specs.declared.cue.Cue.{Cue}
 use Rattle.cue_lists.specs.declared.cue.Kind.TheVariants.{Win}
 use Rattle.cue_lists.specs.declared.cue.WinCue.{WinCue}
-use Rattle.frame_carrier.specs.Carrying.{column_packets}
-use Rattle.frame_scheduler.specs.Planned.{Placement, columns_of}
+use Rattle.services_shown.specs.Carrying.{column_packets}
+use Rattle.frame_carrier.specs.Planned.{Placement, columns_of}
 use Rattle.rate_convert.specs.Misfits.{AreFit}
 use Rattle.services_shown.specs.PlacedServices.{AreServicesPlaced}
 use Rattle.services_shown.specs.Sound.{IsSoundFrames}

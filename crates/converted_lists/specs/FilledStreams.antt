@@ -2,7 +2,7 @@
 -- Bytes and ticks that never fill the buffer of a service, of which each byte completes something good.
 use Rattle.std.specs.Prelude.{List, []}
 use Rattle.dtvcc_screen.specs.Meaning.{Event, start}
-use Rattle.windows_shown.specs.Filling.{AllFill}
+use Rattle.services_shown.specs.Filling.{AllFill}
 use Rattle.rate_convert.specs.GoodStreams.{IsGoodStream}
 use Rattle.rate_convert.specs.HalvedServices.{AreGood}
 

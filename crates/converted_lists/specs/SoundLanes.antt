@@ -4,8 +4,8 @@ use Rattle.std.specs.Prelude.{◌≡◌, ℕ, ◌≤◌, zero, suc, Some, List, 
 use Rattle.cc_base.specs.declared.rate.Rate.TheVariants.{F2997}
 use Rattle.dtvcc_author.specs.declared.frame_events.Delay.{Delay}
 use Rattle.dtvcc_screen.specs.Meaning.{Event}
-use Rattle.windows_shown.specs.ServiceLanes.{Lane, lane_frame_events}
-use Rattle.windows_shown.specs.Soundness.{IsSoundLane}
+use Rattle.services_shown.specs.ServiceLanes.{Lane, lane_frame_events}
+use Rattle.services_shown.specs.Soundness.{IsSoundLane}
 use Rattle.rate_convert.specs.GoodStreams.{IsGoodStream}
 
 abbrev pub lane_events : Lane → ℕ → List Event

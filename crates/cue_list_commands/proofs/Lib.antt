@@ -1,3 +1,14 @@
+pub use Rattle.services_shown.proofs.ChannelLemmas
+pub use Rattle.services_shown.proofs.DelayLemmas
+pub use Rattle.services_shown.proofs.LaneLemmas
+pub use Rattle.services_shown.proofs.LeadingLemmas
+pub use Rattle.services_shown.proofs.PlacedBlocksLemmas
+pub use Rattle.services_shown.proofs.RoomLemmas
+pub use Rattle.services_shown.proofs.SeenLemmas
+pub use Rattle.services_shown.proofs.ShownLemmas
+pub use Rattle.services_shown.proofs.SoundLemmas
+pub use Rattle.services_shown.proofs.SoundSeenLemmas
+pub use Rattle.services_shown.proofs.ToldLemmas
 pub mod MadeLemmas
 mod GatheredLines
 pub mod ListAnswerLemmas

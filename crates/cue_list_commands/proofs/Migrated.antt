@@ -4,8 +4,8 @@ use Rattle.std.specs.Prelude.{unwrap_or}
 use Rattle.cue_lists.specs.Listing.{IsFormed, Listing}
 use Rattle.cue_lists.specs.declared.lane.Lane.{Lane}
 use Rattle.cue_lists.specs.declared.lane.Lane.TheVariants.{Channel, Service}
-use Rattle.lanes.specs.Placing.{IsEarliest}
-use Rattle.lanes.specs.ServiceRoom.{caption_lane}
+use Rattle.frame_scheduler.specs.Placing.{IsEarliest}
+use Rattle.frame_scheduler.specs.ServiceRoom.{caption_lane}
 use Rattle.frame_scheduler.specs.Planned.{IsLanePlaced, Placement, captions_in, chunks_in}
 use Rattle.cue_lists.specs.Printing.{in_order}
 use Rattle.cue_lists.specs.declared.head.Version.TheVariants as version

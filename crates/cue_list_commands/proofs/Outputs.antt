@@ -19,8 +19,8 @@ use Rattle.frame_carrier.specs.Carried.{AreBytePairs, IsBytePair}
 use Rattle.services_shown.specs.PlacedServices.{AreServicesPlaced}
 use Rattle.services_shown.proofs.DelayLemmas.{delays_sent}
 use Rattle.services_shown.proofs.SeenLemmas.{authored_windows_seen}
-use Rattle.line21_shown.proofs.CaptionedLemmas.{AreBytes, frame_bytes}
-use Rattle.line21_shown.proofs.SequenceLemmas.{authored_seen}
+use Rattle.services_shown.proofs.CaptionedLemmas.{AreBytes, frame_bytes}
+use Rattle.services_shown.proofs.SequenceLemmas.{authored_seen}
 use Rattle.command_base.specs.MakesAnswer.{PutsMade}
 use Rattle.cue_list_commands.specs.Accepted.{IsGoodList}
 use Rattle.cue_list_commands.specs.Output.{IsPlacedAs, IsSoundPairs, IsSoundWords, PlacedList, list_grids, list_told}

@@ -5,7 +5,7 @@
 use Rattle.std.specs.Prelude.{◌≡◌, ⊤, ℕ, ◌+◌, ◌-◌, ◌==◌, ◌&&◌, nat_le, nat_lt, Bool, false, true, if◌then◌else◌, List, [], ◌∷◌, length, find, slice_index_or, Option, Some, None, unwrap_or}
 use Rattle.std.specs.List.{AllByRecursion}
 use Rattle.std.specs.Option.{option_and_then}
-use Rattle.dtvcc_codes.specs.declared.pens.PenAttr.{PenAttr}
+use Rattle.dtvcc_windows.specs.PenAttr.{PenAttr}
 use Rattle.dtvcc_windows.specs.Places.{Cells}
 use Rattle.dtvcc_windows.specs.Showing.{ShownWindow}
 use Rattle.dtvcc_windows.specs.Styles.{pen_style, window_style}

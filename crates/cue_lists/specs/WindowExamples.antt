@@ -1,10 +1,10 @@
 -- Between crates: the program's answer stands on none of these definitions.
 -- A list with a window as literals, whose authored windows are worked out by hand.
 use Rattle.std.specs.Prelude.{ℕ, Bool, true, false, List, [], ◌∷◌, Option, Some, None}
-use Rattle.dtvcc_codes.specs.declared.pens.Fill.{Fill}
-use Rattle.dtvcc_codes.specs.declared.pens.PenAttr.{PenAttr}
-use Rattle.dtvcc_codes.specs.declared.pens.PenColors.{PenColors}
-use Rattle.dtvcc_codes.specs.declared.windows.WinAttr.{WinAttr}
+use Rattle.dtvcc_windows.specs.Fill.{Fill}
+use Rattle.dtvcc_windows.specs.PenAttr.{PenAttr}
+use Rattle.dtvcc_windows.specs.PenColors.{PenColors}
+use Rattle.dtvcc_windows.specs.WinAttr.{WinAttr}
 use Rattle.dtvcc_windows.specs.Showing.{ShownWindow}
 use Rattle.dtvcc_windows.specs.declared.cells.DCell.{DCell}
 use Rattle.cue_types.specs.declared.cue.Cue.{Cue}

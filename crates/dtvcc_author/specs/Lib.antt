@@ -1,3 +1,5 @@
+pub use Rattle.dtvcc_codes.specs.Writing
+pub use Rattle.dtvcc_codes.specs.declared.commands.Command
 pub mod WindowCommands
 pub mod CueUnits
 pub mod Captions

@@ -8,6 +8,7 @@ pub use crate::frame_events::{Delay, FrameEvents};
 pub use crate::latest::Latest;
 pub use crate::packed::PackedUnits;
 pub use crate::unit::DUnits;
+pub use cue_types::Cue;
 
 mod caption;
 mod commands;

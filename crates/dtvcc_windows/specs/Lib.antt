@@ -1,3 +1,7 @@
+pub use Rattle.dtvcc_codes.specs.declared.pens.Fill
+pub use Rattle.dtvcc_codes.specs.declared.pens.PenAttr
+pub use Rattle.dtvcc_codes.specs.declared.pens.PenColors
+pub use Rattle.dtvcc_codes.specs.declared.windows.WinAttr
 pub mod Places
 pub mod Raising
 pub mod Sizes

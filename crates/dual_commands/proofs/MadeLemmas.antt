@@ -18,7 +18,7 @@ use Rattle.dual_plans.specs.DualPlacement.{DualPlacement, IsDualPlaced, dual_col
 use Rattle.dual_plans.specs.FieldPlaces.{GoTogether}
 use Rattle.dual_plans.specs.declared.fault.DualFault.{DualFault}
 use Rattle.dual_plans.specs.declared.fault.DualFault.TheVariants.{Memory, OtherList, FieldClash, NoRoom, NoRoomBeside}
-use Rattle.frame_scheduler.specs.Columns.{Columns}
+use Rattle.frame_carrier.specs.Columns.{Columns}
 use Rattle.cue_list_commands.specs.Made.{IsMadeOf}
 use Rattle.frame_carrier.specs.declared.programme.Programme.{Programme}
 

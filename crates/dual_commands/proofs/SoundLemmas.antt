@@ -8,13 +8,13 @@ use Rattle.dual_plans.proofs.DualPairsLemmas.{dual_sound}
 use Rattle.dual_plans.proofs.DualShownLemmas.{both_shown}
 use Rattle.dual_plans.specs.DualPlacement.{DualPlacement, IsDualPlaced, dual_columns}
 use Rattle.dual_plans.specs.FieldPlaces.{GoTogether}
-use Rattle.frame_scheduler.specs.Planned.{columns_of, share_in}
-use Rattle.services_shown.proofs.DelayLemmas.{delays_sent}
-use Rattle.services_shown.proofs.SeenLemmas.{authored_windows_seen}
-use Rattle.services_shown.specs.OtherPairs.{AreFitAlike}
-use Rattle.services_shown.specs.Sound.{IsSoundFrames}
-use Rattle.services_shown.proofs.PlacedBlocksLemmas.{shares_kept}
-use Rattle.services_shown.proofs.SoundSeenLemmas.{columns_seen}
+use Rattle.frame_carrier.specs.Planned.{columns_of, share_in}
+use Rattle.cue_list_commands.proofs.DelayLemmas.{delays_sent}
+use Rattle.cue_list_commands.proofs.SeenLemmas.{authored_windows_seen}
+use Rattle.cue_list_commands.specs.OtherPairs.{AreFitAlike}
+use Rattle.cue_list_commands.specs.Sound.{IsSoundFrames}
+use Rattle.cue_list_commands.proofs.PlacedBlocksLemmas.{shares_kept}
+use Rattle.cue_list_commands.proofs.SoundSeenLemmas.{columns_seen}
 
 module _ (one two : Listing) (placed : DualPlacement) (together : GoTogether one two) (is : IsDualPlaced one two placed) where
   sound : IsSoundFrames one.rate one.frames (dual_columns one two placed)

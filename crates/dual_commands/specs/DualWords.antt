@@ -4,12 +4,12 @@ use Rattle.cue_list_commands.specs.Output.{list_windows}
 use Rattle.dual_commands.specs.DualLists.{PlacedLists}
 use Rattle.dual_plans.specs.DualShown.{dual_grids, dual_told}
 use Rattle.dual_plans.specs.DualPlacement.{dual_columns}
-use Rattle.frame_scheduler.specs.Planned.{share_in}
+use Rattle.frame_carrier.specs.Planned.{share_in}
 use Rattle.frame_carrier.specs.Framing.{Framing, packets_of}
-use Rattle.services_shown.specs.Delays.{AreDelaysSent}
-use Rattle.services_shown.specs.Shares.{AreSharesKept}
-use Rattle.services_shown.specs.Showing.{ShowsFrames}
-use Rattle.services_shown.specs.Sound.{IsSoundFrames}
+use Rattle.cue_list_commands.specs.Delays.{AreDelaysSent}
+use Rattle.cue_list_commands.specs.Shares.{AreSharesKept}
+use Rattle.cue_list_commands.specs.Showing.{ShowsFrames}
+use Rattle.cue_list_commands.specs.Sound.{IsSoundFrames}
 
 -- the frames of both lists in their placements
 abbrev pub dual_framing : PlacedLists → Framing

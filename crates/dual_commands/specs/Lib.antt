@@ -1,3 +1,4 @@
+pub use Rattle.dual_plans.specs.DualShown
 pub mod DualLists
 pub mod DualStatus
 pub mod DualWords

@@ -12,10 +12,10 @@ use Rattle.cue_lists.specs.Listing.{Listing}
 use Rattle.line21_slots.specs.Cadences.{cadence_of, slot_from}
 use Rattle.line21_author.specs.Channels.{cues_on}
 use Rattle.line21_author.proofs.SlotSequenceLemmas.{AreInSlots}
-use Rattle.frame_scheduler.specs.SlotLists.{slot_cues, slots_in_list}
+use Rattle.line21_shown.specs.SlotLists.{slot_cues, slots_in_list}
 use Rattle.lanes.specs.Timeline.{Timeline, slot}
-use Rattle.frame_scheduler.proofs.ListDoublingLemmas.{pairs_column}
-use Rattle.frame_scheduler.proofs.SlotLemmas.{slot_cues_formed, slot_sequence}
+use Rattle.line21_shown.proofs.ListDoublingLemmas.{pairs_column}
+use Rattle.line21_shown.proofs.SlotLemmas.{slot_cues_formed, slot_sequence}
 use Rattle.line21_shown.specs.Reading.{pairs_before}
 use Rattle.line21_shown.specs.Shown.{state_at}
 use Rattle.line21_shown.proofs.SequenceLemmas.{newest_pairs}

@@ -1,3 +1,6 @@
+pub use Rattle.line21_shown.proofs.CaptionedLemmas
+pub use Rattle.line21_shown.proofs.ReadingLemmas
+pub use Rattle.line21_shown.proofs.SequenceLemmas
 pub mod ResumedLemmas
 pub mod WaitingLemmas
 pub mod StartLemmas

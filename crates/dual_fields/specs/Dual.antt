@@ -8,8 +8,8 @@ use Rattle.cue_lists.specs.AuthoredGrid.{IsSettled, authored_grid}
 use Rattle.cue_lists.specs.Listing.{IsFormed, Listing}
 use Rattle.cue_lists.specs.Rules.{IsRuled}
 use Rattle.line21_slots.specs.Cadences.{cadence_of, slot_in}
-use Rattle.frame_scheduler.specs.Columns.{Columns, pair_in}
-use Rattle.frame_scheduler.specs.SlotLists.{slot_cues}
+use Rattle.line21_shown.specs.Columns.{Columns, pair_in}
+use Rattle.line21_shown.specs.SlotLists.{slot_cues}
 use Rattle.lanes.specs.Timeline.{slot}
 use Rattle.line21_shown.specs.Shown.{state_at}
 use Rattle.dual_fields.specs.ResumedLane.{Stand}

@@ -1,3 +1,5 @@
+pub use Rattle.line21_shown.specs.Reading
+pub use Rattle.line21_shown.specs.Shown
 pub mod Parts
 pub mod Slots
 pub mod ResumedLane

@@ -6,7 +6,7 @@ use Rattle.line21_codes.specs.declared.channels.FieldNumber.TheVariants.{One, Tw
 use Rattle.line21_codes.specs.Channels.{field_of_channel}
 use Rattle.cue_lists.specs.Listing.{Listing}
 use Rattle.frame_scheduler.specs.Planned.{authored_channel}
-use Rattle.line21_shown.specs.Shown.{state_at}
+use Rattle.dual_fields.specs.Shown.{state_at}
 use Rattle.dual_fields.specs.Dual.{HavePairs, ShowsBoth}
 use Rattle.dual_fields.proofs.DualLemmas.{both_seen}
 use Rattle.dual_plans.specs.DualPlacement.{DualPlacement, IsDualPlaced, dual_columns}

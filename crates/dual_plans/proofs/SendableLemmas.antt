@@ -28,7 +28,7 @@ use Rattle.frame_scheduler.specs.SlotLists.{slot_cues, slots_in_list}
 use Rattle.lanes.proofs.DoublingLemmas.{at_event, at_unit}
 use Rattle.frame_scheduler.proofs.ListDoublingLemmas.{channel_ended}
 use Rattle.frame_scheduler.proofs.SlotLemmas.{slot_cues_formed, slot_sequence}
-use Rattle.line21_shown.proofs.CaptionedLemmas.{channel_all}
+use Rattle.dual_fields.proofs.CaptionedLemmas.{channel_all}
 use Rattle.dual_fields.specs.declared.part.Part.{Part}
 use Rattle.dual_fields.specs.ChannelParts.{channel_parts}
 use Rattle.dual_fields.specs.Lanes.{AreCues, IsBehind, part_chunks}

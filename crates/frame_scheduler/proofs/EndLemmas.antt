@@ -15,9 +15,9 @@ use Rattle.dtvcc_author.specs.CueUnits.{window_cue_units}
 use Rattle.dtvcc_author.specs.FrameEvents.{event_bytes, is_delayed_at, is_hidden_at, is_shown_at}
 use Rattle.dtvcc_author.specs.Kept.{AreKept, IsSoundCaption}
 use Rattle.dtvcc_author.specs.declared.caption.Caption.{Caption}
-use Rattle.line21_author.specs.CueEvents.{channel_events}
-use Rattle.line21_author.specs.declared.event.Event.{Event}
-use Rattle.line21_author.specs.declared.unit.Unit.{Unit}
+use Rattle.lanes.specs.CueEvents.{channel_events}
+use Rattle.lanes.specs.Event.{Event}
+use Rattle.lanes.specs.Unit.{Unit}
 use Rattle.line21_codes.specs.NullPairs.{null_pair}
 use Rattle.line21_codes.specs.declared.channels.Chan.{Chan}
 use Rattle.line21_codes.specs.declared.channels.Chan.TheVariants.{Cc1, Cc3}

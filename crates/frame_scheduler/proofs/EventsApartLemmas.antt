@@ -13,12 +13,12 @@ use Rattle.cue_lists.specs.Rules.Lane.{is_pop}
 use Rattle.cue_lists.specs.declared.cue.Cue.{Cue}
 use Rattle.cue_lists.proofs.ChannelCues.{cues_on_formed, hides_unless_roll, pop_is_not_roll}
 use Rattle.line21_codes.specs.Channels.{field_of_channel}
-use Rattle.line21_author.specs.Channels.{cues_on}
-use Rattle.line21_author.specs.CueEvents.{control_event, is_replaced_at, show_events, hide_events, cue_events, channel_events}
-use Rattle.line21_author.specs.EventOrder.{AreApart}
-use Rattle.line21_author.specs.declared.event.Event.{Event}
-use Rattle.line21_author.proofs.CueEventsLemmas.{events_of_apart}
-use Rattle.line21_author.proofs.SlotSequenceLemmas.{IsSoundInSlots, all_sound_in_slots}
+use Rattle.lanes.specs.Channels.{cues_on}
+use Rattle.lanes.specs.CueEvents.{control_event, is_replaced_at, show_events, hide_events, cue_events, channel_events}
+use Rattle.lanes.specs.EventOrder.{AreApart}
+use Rattle.lanes.specs.Event.{Event}
+use Rattle.lanes.proofs.CueEventsLemmas.{events_of_apart}
+use Rattle.lanes.proofs.SlotSequenceLemmas.{IsSoundInSlots, all_sound_in_slots}
 use Rattle.frame_scheduler.specs.SlotLists.{slot_cues, slots_in_list}
 use Rattle.frame_scheduler.proofs.SlotLemmas.{slot_cues_formed, slot_sequence}
 

@@ -18,12 +18,12 @@ use Rattle.cue_lists.specs.declared.cue.Kind.TheVariants as kind
 use Rattle.cue_lists.specs.declared.cue.Run.{Run}
 use Rattle.cue_lists.specs.declared.lane.Lane.{Lane}
 use Rattle.cue_lists.specs.declared.lane.Lane.TheVariants.{Channel, Service}
-use Rattle.line21_author.specs.Channels.{is_on, same_channel}
+use Rattle.lanes.specs.Channels.{is_on, same_channel}
 use Rattle.line21_slots.specs.Cadences.{cadence_of, slot_from, slot_in}
-use Rattle.line21_author.specs.CueEvents.{channel_events}
+use Rattle.lanes.specs.CueEvents.{channel_events}
 use Rattle.line21_slots.proofs.CadenceLemmas.{slot_from_first}
-use Rattle.line21_author.proofs.CueSlotLemmas.{cues_formed_in_slots}
-use Rattle.line21_author.specs.declared.event.Event.{Event}
+use Rattle.lanes.proofs.CueSlotLemmas.{cues_formed_in_slots}
+use Rattle.lanes.specs.Event.{Event}
 use Rattle.lanes.specs.ChannelLane.{IsChannelPlaced, channel_chunks, channel_slot, channel_chunks_from}
 use Rattle.lanes.specs.FieldLane.{field_lane}
 use Rattle.lanes.specs.FieldPlan.{IsFieldPlan, IsFieldFault, PlannedField, lane_pair, slot_pair, field_chunk_cue}

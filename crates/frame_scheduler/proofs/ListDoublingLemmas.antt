@@ -15,19 +15,19 @@ use Rattle.cue_lists.specs.Rules.{IsRuled}
 use Rattle.cue_lists.specs.declared.cue.Cue.{Cue}
 use Rattle.cue_lists.specs.declared.lane.Lane.TheVariants.{Channel}
 use Rattle.line21_codes.specs.declared.pairs.Pair.{Pair}
-use Rattle.line21_author.specs.Channels.{cues_on, is_on}
+use Rattle.lanes.specs.Channels.{cues_on, is_on}
 use Rattle.line21_slots.specs.Cadences.{cadence_of, has_slot_in, slot_from, slot_in}
 use Rattle.line21_slots.specs.declared.cadence.Cadence.{Cadence}
 use Rattle.line21_slots.proofs.CadenceLemmas.{slot_from_first, slot_more, slot_no_more}
-use Rattle.line21_author.specs.CueEvents.{channel_events}
-use Rattle.line21_author.specs.CueUnits.{units_of}
-use Rattle.line21_author.specs.EventPairs.{IsControlEvent}
-use Rattle.line21_author.specs.UnitPairs.{IsCarried}
-use Rattle.line21_author.specs.declared.event.Event.{Event}
-use Rattle.line21_author.specs.declared.unit.Unit.{Unit}
-use Rattle.line21_author.proofs.CueEventsLemmas.{channel_events_control}
-use Rattle.line21_author.proofs.CueUnitsLemmas.{units_of_carried}
-use Rattle.line21_author.proofs.SlotSequenceLemmas.{IsSoundInSlots, all_sound_in_slots}
+use Rattle.lanes.specs.CueEvents.{channel_events}
+use Rattle.lanes.specs.CueUnits.{units_of}
+use Rattle.lanes.specs.EventPairs.{IsControlEvent}
+use Rattle.lanes.specs.UnitPairs.{IsCarried}
+use Rattle.lanes.specs.Event.{Event}
+use Rattle.lanes.specs.Unit.{Unit}
+use Rattle.lanes.proofs.CueEventsLemmas.{channel_events_control}
+use Rattle.lanes.proofs.CueUnitsLemmas.{units_of_carried}
+use Rattle.lanes.proofs.SlotSequenceLemmas.{IsSoundInSlots, all_sound_in_slots}
 use Rattle.lanes.specs.declared.chunk.FieldChunk.{FieldChunk}
 use Rattle.lanes.specs.ChannelLane.{IsChannelPlaced, channel_chunks, field_cue_chunks, channel_chunks_from}
 use Rattle.frame_scheduler.specs.Columns.{Columns, first_pairs, pair_in}

@@ -8,8 +8,8 @@ use Rattle.line21_codes.specs.declared.channels.Chan.{Chan}
 use Rattle.line21_codes.specs.declared.channels.Chan.TheVariants.{Cc1, Cc3}
 use Rattle.cue_lists.specs.Listing.{IsFormed, Listing}
 use Rattle.cue_lists.specs.declared.lane.Lane.TheVariants.{Channel, Service}
-use Rattle.line21_author.specs.CueEvents.{channel_events}
-use Rattle.line21_author.specs.declared.event.Event.{Event}
+use Rattle.lanes.specs.CueEvents.{channel_events}
+use Rattle.lanes.specs.Event.{Event}
 use Rattle.lanes.specs.declared.chunk.FieldChunk.{FieldChunk}
 use Rattle.lanes.specs.ChannelLane.{channel_chunks}
 use Rattle.lanes.specs.FieldLane.{IsAllowedInField, end_of, field_lane, slots_of}

@@ -9,8 +9,8 @@ use Rattle.cue_lists.specs.Cues.{IsCueFormed}
 use Rattle.cue_lists.specs.Listing.{IsFormed, Listing}
 use Rattle.cue_lists.specs.Rules.{IsRuled}
 use Rattle.cue_lists.specs.Rules.Sentences.{AreInSequence, IsOnSlots}
-use Rattle.line21_author.proofs.CueSlotLemmas.{cues_formed_in_slots, cues_on_slots}
-use Rattle.line21_author.proofs.SlotSequenceLemmas.{AreInSlots, in_slots}
+use Rattle.lanes.proofs.CueSlotLemmas.{cues_formed_in_slots, cues_on_slots}
+use Rattle.lanes.proofs.SlotSequenceLemmas.{AreInSlots, in_slots}
 use Rattle.frame_scheduler.specs.SlotLists.{slot_cues, slots_in_list}
 
 -- the cues of a channel, in frames

@@ -4,8 +4,8 @@
 use Rattle.line21_codes.specs.declared.channels.Chan.{Chan}
 use Rattle.cue_lists.specs.Listing.{Listing, IsFormed}
 use Rattle.cue_lists.specs.Rules.{IsRuled}
-use Rattle.line21_author.specs.CueEvents.{channel_events}
-use Rattle.line21_author.specs.EventOrder.{AreApart}
+use Rattle.lanes.specs.CueEvents.{channel_events}
+use Rattle.lanes.specs.EventOrder.{AreApart}
 use Rattle.frame_scheduler.specs.SlotLists.{slot_cues}
 
 -- for every list and channel

@@ -12,7 +12,7 @@ use Rattle.frame_scheduler.specs.Columns.{Columns}
 use Rattle.lanes.specs.FieldPlan.{IsFieldPlan, PlannedField, lane_pair}
 use Rattle.lanes.specs.ChannelLane.{channel_chunks}
 use Rattle.frame_scheduler.specs.SlotLists.{slot_cues}
-use Rattle.line21_author.specs.CueEvents.{channel_events}
+use Rattle.lanes.specs.CueEvents.{channel_events}
 use Rattle.frame_scheduler.specs.Planned.{IsFirstWithoutRoom, IsListPlaced, Placement, columns_of}
 
 -- the frames that the plan hasn't given yet

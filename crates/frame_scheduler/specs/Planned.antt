@@ -12,7 +12,7 @@ use Rattle.cue_lists.specs.Listing.{Listing, share_of}
 use Rattle.cue_lists.specs.declared.lane.Lane.{Lane}
 use Rattle.cue_lists.specs.declared.lane.Lane.TheVariants.{Channel, Service}
 use Rattle.line21_slots.specs.Cadences.{cadence_of, slot_in}
-use Rattle.line21_author.specs.CueEvents.{channel_events}
+use Rattle.lanes.specs.CueEvents.{channel_events}
 use Rattle.dtvcc_author.specs.Captions.{service_captions}
 use Rattle.dtvcc_author.specs.declared.caption.Caption.{Caption}
 use Rattle.lanes.specs.ChannelLane.{IsChannelPlaced, channel_chunks, channel_slot}

@@ -5,7 +5,7 @@ use Rattle.line21_codes.specs.declared.channels.Chan.{Chan}
 use Rattle.line21_slots.specs.Cadences.{cadence_of, slot_from}
 use Rattle.cue_lists.specs.Listing.{Listing}
 use Rattle.cue_lists.specs.declared.cue.Cue.{Cue}
-use Rattle.line21_author.specs.CueSlots.{cues_in_slots}
+use Rattle.lanes.specs.CueSlots.{cues_in_slots}
 
 -- the cues of a list, their times in slots of a channel's field
 abbrev pub slot_cues : Listing → Chan → List Cue

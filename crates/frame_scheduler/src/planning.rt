@@ -7,9 +7,9 @@ ghost use Rattle.dtvcc_author.specs.Kept.{AreKept};
 ghost use Rattle.lanes.specs.ServiceChunks.{service_chunks};
 ghost use Rattle.lanes.specs.ServicePlan.{IsServiceFault, IsServicePlan};
 ghost use Rattle.line21_slots.specs.Cadences.{cadence_of};
-ghost use Rattle.line21_author.specs.CueSlots.{cues_in_slots};
-ghost use Rattle.line21_author.specs.CueEvents.{channel_events};
-ghost use Rattle.line21_author.specs.EventOrder.{AreApart};
+ghost use Rattle.lanes.specs.CueSlots.{cues_in_slots};
+ghost use Rattle.lanes.specs.CueEvents.{channel_events};
+ghost use Rattle.lanes.specs.EventOrder.{AreApart};
 ghost use Rattle.lanes.specs.ChannelLane.{channel_chunks};
 ghost use Rattle.frame_scheduler.specs.Frames.{AreFieldsPlanned, PlanAnswer};
 ghost use Rattle.lanes.specs.FieldPlan.{IsFieldFault, IsFieldPlan};
@@ -18,12 +18,10 @@ ghost use Rattle.frame_scheduler.specs.ServicePlans.{AreServices, IsBeside};
 
 use crate::frames::Plan;
 use cc_base::Rate;
-use cue_lists::{Cue, CueList, LAST_SERVICE};
-use dtvcc_author::captions;
 use lanes::{
-    FieldLane, PlacedField, PlacedService, PlanFault, ServiceLane, channel_chunks, service_chunks,
+    Cue, CueList, FieldLane, LAST_SERVICE, PlacedField, PlacedService, PlanFault, ServiceLane,
+    captions, channel_chunks, events, service_chunks,
 };
-use line21_author::events;
 use line21_codes::Chan;
 use line21_slots::Cadence;
 use std::alloc::Global;

@@ -11,7 +11,7 @@ use Rattle.line21_codes.specs.declared.channels.Chan.{Chan}
 use Rattle.line21_screen.specs.Grid.{Grid}
 use Rattle.words_files.specs.FramesOf.{AreFramesOf}
 use Rattle.words_files.specs.Received.{received_grids}
-use Rattle.services_files.specs.CaptionChannel.{caption_channel}
+use Rattle.cc_receiver.specs.CaptionChannel.{caption_channel}
 
 -- the grid of each channel, and what is seen of the window of each id of each service
 pub record Screens : Type 0 where

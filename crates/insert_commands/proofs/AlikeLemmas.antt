@@ -13,7 +13,7 @@ use Rattle.frame_carrier.specs.Carrying.{channel_packet_of, column_packets, fram
 use Rattle.frame_carrier.proofs.CarryingLemmas.{frame_kinds, frame_number, packet_kinds, triplets_many}
 use Rattle.packet_inserter.specs.Insertion.{IsInserted}
 use Rattle.packet_inserter.proofs.OneWayLemmas.{inserted-triplets}
-use Rattle.services_shown.specs.Told.{CarryTheSame}
+use Rattle.cue_list_commands.specs.Told.{CarryTheSame}
 use Rattle.words_files.proofs.CarriedWordsLemmas.{IsOfBytes, all_of_bytes}
 use Rattle.frame_carrier.specs.Framing.{Framing}
 use Rattle.insert_commands.specs.Captions.{captions_of, padded}

@@ -15,7 +15,7 @@ use Rattle.line21_codes.specs.declared.channels.FieldNumber.{FieldNumber}
 use Rattle.line21_codes.specs.declared.channels.FieldNumber.TheVariants.{One, Two}
 use Rattle.line21_codes.specs.declared.channels.Chan.TheVariants.{Cc1, Cc3}
 use Rattle.line21_slots.specs.Cadences.{cadence_of, has_slot_in}
-use Rattle.services_shown.specs.ServicesCarried.{HasBlocks, IsSent}
+use Rattle.cue_list_commands.specs.ServicesCarried.{HasBlocks, IsSent}
 use Rattle.frame_carrier.specs.Framing.{Framing}
 use Rattle.frame_scheduler.specs.End.{silent_frame}
 use Rattle.insert_commands.specs.Captions.{padded}

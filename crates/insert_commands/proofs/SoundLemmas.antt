@@ -15,8 +15,8 @@ use Rattle.cue_lists.specs.Rules.{IsRuled}
 use Rattle.cue_lists.specs.declared.lane.Lane.TheVariants.{Service}
 use Rattle.dtvcc_screen.specs.Meaning.{Byte, Event, Served, Tick, served_after, start}
 use Rattle.dtvcc_screen.specs.Shown.{grids}
-use Rattle.windows_shown.specs.Filling.{AllFill}
-use Rattle.windows_shown.specs.ServiceLanes.{lane_frame_bytes}
+use Rattle.cue_list_commands.specs.Filling.{AllFill}
+use Rattle.cue_list_commands.specs.ServiceLanes.{lane_frame_bytes}
 use Rattle.frame_carrier.proofs.CarriedLemmas.{frames_carried}
 use Rattle.frame_carrier.specs.Carried.{AreCarried}
 use Rattle.frame_carrier.specs.Carrying.{channel_packet, channel_packet_of, column_packets, frame_packet, packet_count, packets_before}
@@ -28,23 +28,23 @@ use Rattle.line21_codes.specs.declared.pairs.Pair.{Pair}
 use Rattle.line21_screen.specs.Fields.{channel}
 use Rattle.line21_screen.specs.Meaning.{after as after_pairs}
 use Rattle.service_blocks.specs.Channels.{AreChannel}
-use Rattle.services_shown.proofs.ChannelLemmas.{programmes_whole}
-use Rattle.services_shown.proofs.LaneLemmas.{lane_sent}
-use Rattle.services_shown.proofs.RoomLemmas.{blocks_bytes, frames_roomy, has_blocks}
-use Rattle.services_shown.proofs.ToldLemmas.{columns_told, like_frames, packets_count, take_packets, told_same}
-use Rattle.services_shown.specs.PlacedServices.{AreServicesPlaced}
-use Rattle.services_shown.specs.Told.{CarryTheSame, SayAlike, sent_to, told}
+use Rattle.cue_list_commands.proofs.ChannelLemmas.{programmes_whole}
+use Rattle.cue_list_commands.proofs.LaneLemmas.{lane_sent}
+use Rattle.cue_list_commands.proofs.RoomLemmas.{blocks_bytes, frames_roomy, has_blocks}
+use Rattle.cue_list_commands.proofs.ToldLemmas.{columns_told, like_frames, packets_count, take_packets, told_same}
+use Rattle.cue_list_commands.specs.PlacedServices.{AreServicesPlaced}
+use Rattle.cue_list_commands.specs.Told.{CarryTheSame, SayAlike, sent_to, told}
 use Rattle.services_files.specs.CarriedChannel.{CarryChannel, file_triplets}
 use Rattle.services_files.specs.Events.{service_events}
-use Rattle.services_shown.proofs.LeadingLemmas.{lane_is_sound, lane_told, told_fills, told_leads}
-use Rattle.services_shown.specs.Buffers.{BuffersNeverFill}
-use Rattle.services_shown.specs.SeenWindows.{ShowAuthoredWindows}
-use Rattle.services_shown.proofs.PlacedBlocksLemmas.{shares_kept}
-use Rattle.services_shown.proofs.SoundSeenLemmas.{columns_seen}
-use Rattle.services_shown.specs.Shares.{AreSharesKept, IsToldAtMost}
-use Rattle.services_shown.specs.Showing.{ShowsFrames}
-use Rattle.windows_shown.proofs.ShownLemmas.{windows_are_shown}
-use Rattle.windows_shown.specs.AuthoredShown.{list_lane}
+use Rattle.cue_list_commands.proofs.LeadingLemmas.{lane_is_sound, lane_told, told_fills, told_leads}
+use Rattle.cue_list_commands.specs.Buffers.{BuffersNeverFill}
+use Rattle.cue_list_commands.specs.SeenWindows.{ShowAuthoredWindows}
+use Rattle.cue_list_commands.proofs.PlacedBlocksLemmas.{shares_kept}
+use Rattle.cue_list_commands.proofs.SoundSeenLemmas.{columns_seen}
+use Rattle.cue_list_commands.specs.Shares.{AreSharesKept, IsToldAtMost}
+use Rattle.cue_list_commands.specs.Showing.{ShowsFrames}
+use Rattle.cue_list_commands.proofs.ShownLemmas.{windows_are_shown}
+use Rattle.cue_list_commands.specs.AuthoredShown.{list_lane}
 use Rattle.insert_commands.specs.Captions.{captions_of, padded}
 use Rattle.insert_commands.specs.Soundness.{InsertionsAreSound}
 use Rattle.insert_commands.proofs.AlikeLemmas.{can_be_carried, say_alike}

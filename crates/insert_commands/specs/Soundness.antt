@@ -10,10 +10,10 @@ use Rattle.cue_list_commands.specs.Output.{built_packets, list_framing, list_gri
 use Rattle.cue_lists.specs.Listing.{Listing}
 use Rattle.frame_scheduler.specs.Planned.{Placement, share_in}
 use Rattle.packet_inserter.specs.Insertion.{IsInserted}
-use Rattle.services_shown.specs.Told.{CarryTheSame}
-use Rattle.services_shown.specs.Buffers.{BuffersNeverFill}
-use Rattle.services_shown.specs.Shares.{AreSharesKept}
-use Rattle.services_shown.specs.Showing.{ShowsFrames}
+use Rattle.cue_list_commands.specs.Told.{CarryTheSame}
+use Rattle.cue_list_commands.specs.Buffers.{BuffersNeverFill}
+use Rattle.cue_list_commands.specs.Shares.{AreSharesKept}
+use Rattle.cue_list_commands.specs.Showing.{ShowsFrames}
 use Rattle.words_files.specs.Offences.{IsFileUnder}
 use Rattle.services_files.specs.CaptionChannel.{caption_channel}
 use Rattle.insert_commands.specs.Captions.{captions_of}

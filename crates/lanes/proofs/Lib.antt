@@ -1,3 +1,8 @@
+pub use Rattle.line21_author.proofs.CueCodesLemmas
+pub use Rattle.line21_author.proofs.CueEventsLemmas
+pub use Rattle.line21_author.proofs.CueSlotLemmas
+pub use Rattle.line21_author.proofs.CueUnitsLemmas
+pub use Rattle.line21_author.proofs.SlotSequenceLemmas
 pub mod PlacingLemmas
 pub mod FirstFitLemmas
 pub mod LaneRoomLemmas

@@ -5,9 +5,9 @@ use Rattle.std.proofs.lemmas.Bool.Decides.{nat_tests}
 use Rattle.std.proofs.lemmas.List.{take_all, take_more}
 use Rattle.std.proofs.lemmas.List.Concat.{flat_map-append}
 use Rattle.std.proofs.lemmas.List.Sums.{sum_by-cons}
-use Rattle.dtvcc_codes.specs.declared.commands.Command.{Command}
-use Rattle.dtvcc_codes.specs.declared.commands.Command.TheVariants.{Dlw, Dsw}
-use Rattle.dtvcc_codes.specs.Writing.{bytes_of_command}
+use Rattle.dtvcc_author.specs.Command.{Command}
+use Rattle.dtvcc_author.specs.Command.TheVariants.{Dlw, Dsw}
+use Rattle.dtvcc_author.specs.Writing.{bytes_of_command}
 use Rattle.dtvcc_author.specs.FrameEvents.{delay_commands, delay_end, delayed_at, event_bytes, is_hidden_at, is_shown_at, names, windows_byte, windows_command}
 use Rattle.dtvcc_author.specs.declared.caption.Caption.{Caption}
 use Rattle.lanes.specs.FirstFit.{IsFirst}

@@ -1,3 +1,16 @@
+pub use Rattle.line21_author.specs.Channels
+pub use Rattle.line21_author.specs.CueCodes
+pub use Rattle.line21_author.specs.CueEvents
+pub use Rattle.line21_author.specs.CueSlots
+pub use Rattle.line21_author.specs.CueUnits
+pub use Rattle.line21_author.specs.EventOrder
+pub use Rattle.line21_author.specs.EventPairs
+pub use Rattle.line21_author.specs.FirstChannel
+pub use Rattle.line21_author.specs.RunCodes
+pub use Rattle.line21_author.specs.TextCodes
+pub use Rattle.line21_author.specs.UnitPairs
+pub use Rattle.line21_author.specs.declared.event.Event
+pub use Rattle.line21_author.specs.declared.unit.Unit
 pub mod Placing
 pub mod OneMore
 pub mod FirstFit

@@ -5,9 +5,8 @@ ghost use Rattle.line21_author.specs.CueSlots.{cues_in_slots, timed_in_slots};
 ghost use Rattle.lanes.specs.ChannelLane.{channel_chunks, field_cue_chunks};
 
 use crate::chunk::FieldChunk;
-use cue_lists::Cue;
-use cue_lists::line21::is_on;
-use line21_author::units;
+use line21_author::line21::is_on;
+use line21_author::{Cue, units};
 use line21_codes::Chan;
 use line21_slots::Cadence;
 use std::alloc::{AllocError, Global};

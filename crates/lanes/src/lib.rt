@@ -12,6 +12,8 @@ pub use crate::placed_service::{PlacedService, ServiceLane};
 pub use crate::placed_unit::PlacedUnit;
 pub use crate::planning::PlanFault;
 pub use crate::service_cues::service_chunks;
+pub use dtvcc_author::captions;
+pub use line21_author::{Cue, CueList, LAST_SERVICE, events};
 
 mod batch;
 mod budget;

@@ -8,8 +8,7 @@ ghost use Rattle.lanes.specs.ServiceChunks.{chunk_of, service_chunks};
 use crate::chunk_list::ChunkList;
 use crate::cue_load::CueLoad;
 use cc_base::Rate;
-use cue_lists::Cue;
-use dtvcc_author::{Caption, PackedUnits, caption_of, push_units};
+use dtvcc_author::{Caption, Cue, PackedUnits, caption_of, push_units};
 use std::alloc::{AllocError, Global};
 
 /// The units of the cues of a service, in the order of the cues. `AllocError` where there is no memory for them.

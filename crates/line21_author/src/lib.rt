@@ -5,6 +5,7 @@
 pub use crate::cue::units;
 pub use crate::event::{Event, events};
 pub use crate::unit::{Unit, Units};
+pub use cue_lists::{Cue, CueList, LAST_SERVICE, line21};
 
 mod channel;
 mod cue;

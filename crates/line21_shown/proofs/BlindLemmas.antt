@@ -18,10 +18,10 @@ use Rattle.cue_lists.specs.declared.cue.Kind.TheVariants.{Pop}
 use Rattle.cue_lists.specs.declared.cue.Pen.{Pen}
 use Rattle.cue_lists.specs.declared.cue.Pen.TheVariants.{Line21, Dtv}
 use Rattle.cue_lists.specs.declared.cue.Run.{Run}
-use Rattle.line21_author.specs.CueCodes.{opening_codes, cue_codes}
-use Rattle.line21_author.specs.FirstChannel.{first_channel}
-use Rattle.line21_author.specs.RunCodes.{is_upright_white, white, white_approach, mid_row_colour, approach, codes_with, run_codes}
-use Rattle.line21_author.specs.TextCodes.{packed, text_codes}
+use Rattle.frame_scheduler.specs.CueCodes.{opening_codes, cue_codes}
+use Rattle.frame_scheduler.specs.FirstChannel.{first_channel}
+use Rattle.frame_scheduler.specs.RunCodes.{is_upright_white, white, white_approach, mid_row_colour, approach, codes_with, run_codes}
+use Rattle.frame_scheduler.specs.TextCodes.{packed, text_codes}
 use Rattle.line21_screen.specs.declared.modes.Mode.TheVariants.{PopOn}
 use Rattle.line21_screen.specs.Channels.{ChannelState}
 use Rattle.line21_screen.specs.Editing.{edited, with_pen, printed, special, extended}

@@ -9,7 +9,7 @@ use Rattle.line21_codes.specs.declared.styles.Colour.{Colour}
 use Rattle.line21_codes.specs.declared.styles.Style.{Style}
 use Rattle.line21_codes.specs.SpecialCharacters.{special_of}
 use Rattle.line21_codes.specs.ExtendedCharacters.{extended_of}
-use Rattle.line21_author.specs.FirstChannel.{first_channel}
+use Rattle.frame_scheduler.specs.FirstChannel.{first_channel}
 use Rattle.line21_screen.specs.declared.modes.Mode.TheVariants.{PopOn, PaintOn, RollUp}
 use Rattle.line21_screen.specs.Channels.{ChannelState}
 use Rattle.line21_screen.specs.Controls.{acts_always, acted, after_control}

@@ -23,25 +23,25 @@ use Rattle.cue_lists.specs.declared.cue.Kind.{Kind}
 use Rattle.cue_lists.specs.declared.cue.Kind.TheVariants as kind
 use Rattle.line21_codes.specs.Channels.{field_of_channel}
 use Rattle.line21_codes.specs.NullPairs.{null_pair}
-use Rattle.line21_author.specs.Channels.{cues_on, field_of_kind, is_on}
+use Rattle.frame_scheduler.specs.Channels.{cues_on, field_of_kind, is_on}
 use Rattle.line21_slots.specs.Cadences.{cadence_of, slot_in}
-use Rattle.line21_author.specs.CueCodes.{cue_codes, opening_codes}
-use Rattle.line21_author.specs.CueEvents.{channel_events, control_event, cue_events, hide_events, is_replaced_at, show_events}
-use Rattle.line21_author.specs.CueUnits.{unit_of}
-use Rattle.line21_author.specs.FirstChannel.{first_channel}
-use Rattle.line21_author.specs.RunCodes.{run_codes}
-use Rattle.line21_author.specs.declared.event.Event.{Event}
-use Rattle.line21_author.specs.declared.unit.Unit.{Unit}
-use Rattle.line21_author.proofs.CueSlotLemmas.{cues_formed_in_slots}
-use Rattle.line21_author.proofs.CueCodesLemmas.{cue_codes_writable}
-use Rattle.lanes.specs.declared.chunk.FieldChunk.{FieldChunk}
-use Rattle.lanes.specs.ChannelLane.{IsChannelPlaced, channel_chunks, channel_slot, field_cue_chunks, channel_chunks_from}
-use Rattle.lanes.specs.LaneEvents.{event_at}
-use Rattle.lanes.specs.LaneTimeline.{lane_timeline, stands}
+use Rattle.frame_scheduler.specs.CueCodes.{cue_codes, opening_codes}
+use Rattle.frame_scheduler.specs.CueEvents.{channel_events, control_event, cue_events, hide_events, is_replaced_at, show_events}
+use Rattle.frame_scheduler.specs.CueUnits.{unit_of}
+use Rattle.frame_scheduler.specs.FirstChannel.{first_channel}
+use Rattle.frame_scheduler.specs.RunCodes.{run_codes}
+use Rattle.frame_scheduler.specs.Event.{Event}
+use Rattle.frame_scheduler.specs.Unit.{Unit}
+use Rattle.frame_scheduler.proofs.CueSlotLemmas.{cues_formed_in_slots}
+use Rattle.frame_scheduler.proofs.CueCodesLemmas.{cue_codes_writable}
+use Rattle.frame_scheduler.specs.FieldChunk.{FieldChunk}
+use Rattle.frame_scheduler.specs.ChannelLane.{IsChannelPlaced, channel_chunks, channel_slot, field_cue_chunks, channel_chunks_from}
+use Rattle.frame_scheduler.specs.LaneEvents.{event_at}
+use Rattle.frame_scheduler.specs.LaneTimeline.{lane_timeline, stands}
 use Rattle.frame_scheduler.specs.Planned.{channel_pair}
 use Rattle.frame_scheduler.specs.SlotLists.{slot_cues}
-use Rattle.lanes.specs.Timeline.{Timeline, repeat_at, repeat_of, slot}
-use Rattle.lanes.proofs.DoublingLemmas.{at_event, at_unit, lane_marked, lane_spaced, over_cases}
+use Rattle.frame_scheduler.specs.Timeline.{Timeline, repeat_at, repeat_of, slot}
+use Rattle.frame_scheduler.proofs.DoublingLemmas.{at_event, at_unit, lane_marked, lane_spaced, over_cases}
 use Rattle.frame_scheduler.proofs.EventsApartLemmas.{events_apart}
 use Rattle.frame_scheduler.proofs.ListDoublingLemmas.{channel_controls, channel_timeline}
 use Rattle.frame_scheduler.proofs.SlotLemmas.{slot_cues_formed}

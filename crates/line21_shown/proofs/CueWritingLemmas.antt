@@ -11,8 +11,8 @@ use Rattle.cue_lists.specs.declared.cue.Run.{Run}
 use Rattle.cue_lists.specs.AuthoredGrid.{cell_in, cells_of}
 use Rattle.cue_lists.specs.Line21Cues.{IsLine21Run}
 use Rattle.cue_lists.specs.Rules.Cells.{covers, share_cell, have_shared_cell}
-use Rattle.line21_author.specs.CueCodes.{opening_codes, cue_codes}
-use Rattle.line21_author.specs.RunCodes.{run_codes}
+use Rattle.frame_scheduler.specs.CueCodes.{opening_codes, cue_codes}
+use Rattle.frame_scheduler.specs.RunCodes.{run_codes}
 use Rattle.line21_screen.specs.Channels.{ChannelState}
 use Rattle.line21_screen.specs.Grid.{Grid, empty_grid}
 use Rattle.line21_shown.specs.Doing.{does_all}

@@ -10,21 +10,21 @@ use Rattle.line21_codes.specs.Writable.{IsWritable}
 use Rattle.line21_codes.proofs.CodeLemmas.{written-code_of}
 use Rattle.cue_lists.specs.Cues.{IsCueFormed}
 use Rattle.cue_lists.specs.declared.cue.Cue.{Cue}
-use Rattle.line21_author.specs.Channels.{field_of_kind}
-use Rattle.line21_author.specs.CueCodes.{cue_codes}
-use Rattle.line21_author.specs.CueEvents.{cue_events, hide_events, show_events}
-use Rattle.line21_author.specs.CueUnits.{unit_of}
-use Rattle.line21_author.specs.declared.event.Event.{Event}
-use Rattle.line21_author.specs.declared.unit.Unit.{Unit}
-use Rattle.line21_author.proofs.CueCodesLemmas.{cue_codes_writable}
-use Rattle.line21_author.proofs.SlotSequenceLemmas.{AreInSlots, IsSoundInSlots}
-use Rattle.lanes.specs.declared.chunk.FieldChunk.{FieldChunk}
-use Rattle.lanes.specs.ChannelLane.{field_cue_chunks}
+use Rattle.frame_scheduler.specs.Channels.{field_of_kind}
+use Rattle.frame_scheduler.specs.CueCodes.{cue_codes}
+use Rattle.frame_scheduler.specs.CueEvents.{cue_events, hide_events, show_events}
+use Rattle.frame_scheduler.specs.CueUnits.{unit_of}
+use Rattle.frame_scheduler.specs.Event.{Event}
+use Rattle.frame_scheduler.specs.Unit.{Unit}
+use Rattle.frame_scheduler.proofs.CueCodesLemmas.{cue_codes_writable}
+use Rattle.frame_scheduler.proofs.SlotSequenceLemmas.{AreInSlots, IsSoundInSlots}
+use Rattle.frame_scheduler.specs.FieldChunk.{FieldChunk}
+use Rattle.frame_scheduler.specs.ChannelLane.{field_cue_chunks}
 use Rattle.cue_lists.specs.Rules.Sentences.{AreInSequence}
-use Rattle.lanes.specs.LaneEvents.{IsFree, event_at}
-use Rattle.lanes.specs.LaneTimeline.{stands}
+use Rattle.frame_scheduler.specs.LaneEvents.{IsFree, event_at}
+use Rattle.frame_scheduler.specs.LaneTimeline.{stands}
 use Rattle.cue_lists.specs.Rules.Sentences.{IsSound}
-use Rattle.lanes.specs.Timeline.{Timeline, over}
+use Rattle.frame_scheduler.specs.Timeline.{Timeline, over}
 use Rattle.line21_shown.proofs.LoadingLemmas.{erases, chunk_code, chunk_codes}
 use Rattle.line21_shown.proofs.SuffixLemmas.{AreChunks, ArePlacedFrom, LoadFrom, cue_loads, cue_until, events_behind, loads_from, parts, placed_behind, raised, stands_high, stands_low, stands_parts}
 

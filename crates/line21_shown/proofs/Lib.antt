@@ -1,3 +1,5 @@
+pub use Rattle.frame_scheduler.proofs.ListDoublingLemmas
+pub use Rattle.frame_scheduler.proofs.SlotLemmas
 pub mod BlindLemmas
 pub mod CanvasLemmas
 pub mod CaptionedLemmas

@@ -7,15 +7,15 @@ use Rattle.cue_lists.specs.Rules.Lane.{is_line21}
 use Rattle.cue_lists.specs.declared.cue.Cue.{Cue}
 use Rattle.cue_lists.specs.declared.cue.Kind.{Kind}
 use Rattle.cue_lists.specs.declared.cue.Kind.TheVariants as kind
-use Rattle.line21_author.specs.Channels.{field_of_kind}
-use Rattle.line21_author.specs.CueCodes.{opening_codes}
-use Rattle.line21_author.specs.CueUnits.{unit_of}
-use Rattle.line21_author.specs.FirstChannel.{first_channel}
-use Rattle.line21_author.specs.RunCodes.{run_codes}
-use Rattle.line21_author.specs.declared.event.Event.{Event}
-use Rattle.line21_author.specs.declared.unit.Unit.{Unit}
-use Rattle.lanes.specs.declared.chunk.FieldChunk.{FieldChunk}
-use Rattle.lanes.specs.ChannelLane.{field_cue_chunks}
+use Rattle.frame_scheduler.specs.Channels.{field_of_kind}
+use Rattle.frame_scheduler.specs.CueCodes.{opening_codes}
+use Rattle.frame_scheduler.specs.CueUnits.{unit_of}
+use Rattle.frame_scheduler.specs.FirstChannel.{first_channel}
+use Rattle.frame_scheduler.specs.RunCodes.{run_codes}
+use Rattle.frame_scheduler.specs.Event.{Event}
+use Rattle.frame_scheduler.specs.Unit.{Unit}
+use Rattle.frame_scheduler.specs.FieldChunk.{FieldChunk}
+use Rattle.frame_scheduler.specs.ChannelLane.{field_cue_chunks}
 use Rattle.line21_shown.proofs.SuffixLemmas.{AreChunks, ArePlacedFrom}
 
 -- a unit has a slot within its time

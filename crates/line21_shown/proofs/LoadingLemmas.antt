@@ -9,13 +9,13 @@ use Rattle.line21_codes.specs.declared.codes.Control.TheVariants.{Edm}
 use Rattle.line21_codes.specs.Reading.{code_of}
 use Rattle.line21_codes.specs.Writing.{pair_of_code}
 use Rattle.line21_codes.proofs.CodeLemmas.{written-code_of}
-use Rattle.line21_author.specs.FirstChannel.{first_channel}
-use Rattle.line21_author.specs.declared.unit.Unit.{Unit}
+use Rattle.frame_scheduler.specs.FirstChannel.{first_channel}
+use Rattle.frame_scheduler.specs.Unit.{Unit}
 use Rattle.line21_screen.specs.Channels.{ChannelState}
 use Rattle.line21_screen.specs.Grid.{Grid, empty_grid}
-use Rattle.lanes.specs.declared.chunk.FieldChunk.{FieldChunk}
-use Rattle.lanes.specs.LaneTimeline.{stands}
-use Rattle.lanes.specs.Timeline.{Timeline, over}
+use Rattle.frame_scheduler.specs.FieldChunk.{FieldChunk}
+use Rattle.frame_scheduler.specs.LaneTimeline.{stands}
+use Rattle.frame_scheduler.specs.Timeline.{Timeline, over}
 use Rattle.line21_shown.specs.Doing.{does, does_all}
 use Rattle.line21_shown.specs.Reading.{does_unit, acts}
 use Rattle.line21_shown.proofs.BlindLemmas.{AreBlind, showing}

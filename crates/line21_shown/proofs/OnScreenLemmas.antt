@@ -18,17 +18,17 @@ use Rattle.cue_lists.specs.declared.cue.Kind.{Kind}
 use Rattle.cue_lists.specs.declared.cue.Kind.TheVariants as kind
 use Rattle.cue_lists.specs.declared.cue.Run.{Run}
 use Rattle.cue_lists.proofs.ChannelKept.{continued_continues}
-use Rattle.line21_author.specs.CueCodes.{cue_codes}
-use Rattle.line21_author.specs.CueEvents.{cue_events}
+use Rattle.frame_scheduler.specs.CueCodes.{cue_codes}
+use Rattle.frame_scheduler.specs.CueEvents.{cue_events}
 use Rattle.line21_screen.specs.Channels.{ChannelState}
 use Rattle.line21_screen.specs.Grid.{Grid, empty_grid}
-use Rattle.lanes.specs.declared.chunk.FieldChunk.{FieldChunk}
+use Rattle.frame_scheduler.specs.FieldChunk.{FieldChunk}
 use Rattle.cue_lists.specs.Rules.Sentences.{AreInSequence, IsContinued}
-use Rattle.lanes.specs.LaneEvents.{event_at}
-use Rattle.lanes.specs.LaneTimeline.{stands}
+use Rattle.frame_scheduler.specs.LaneEvents.{event_at}
+use Rattle.frame_scheduler.specs.LaneTimeline.{stands}
 use Rattle.cue_lists.specs.Rules.Sentences.{IsSound}
-use Rattle.lanes.specs.Timeline.{Timeline}
-use Rattle.lanes.proofs.EventLemmas.{event_none}
+use Rattle.frame_scheduler.specs.Timeline.{Timeline}
+use Rattle.frame_scheduler.proofs.EventLemmas.{event_none}
 use Rattle.line21_shown.specs.Doing.{does_all}
 use Rattle.line21_shown.specs.Reading.{acts}
 use Rattle.line21_shown.specs.Writing.{with_runs}

@@ -16,19 +16,19 @@ use Rattle.cue_lists.specs.declared.cue.Cue.{Cue}
 use Rattle.cue_lists.specs.declared.cue.Kind.{Kind}
 use Rattle.cue_lists.specs.declared.cue.Kind.TheVariants as kind
 use Rattle.cue_lists.specs.declared.cue.Run.{Run}
-use Rattle.line21_author.specs.CueCodes.{cue_codes}
-use Rattle.line21_author.specs.CueEvents.{cue_events}
-use Rattle.line21_author.specs.EventOrder.{AreApart}
-use Rattle.line21_author.specs.FirstChannel.{first_channel}
-use Rattle.line21_author.proofs.CueEventsLemmas.{events_of_apart}
+use Rattle.frame_scheduler.specs.CueCodes.{cue_codes}
+use Rattle.frame_scheduler.specs.CueEvents.{cue_events}
+use Rattle.frame_scheduler.specs.EventOrder.{AreApart}
+use Rattle.frame_scheduler.specs.FirstChannel.{first_channel}
+use Rattle.frame_scheduler.proofs.CueEventsLemmas.{events_of_apart}
 use Rattle.line21_screen.specs.Channels.{ChannelState}
 use Rattle.line21_screen.specs.Grid.{Grid}
 use Rattle.cue_lists.specs.Rules.Sentences.{AreInSequence}
-use Rattle.lanes.specs.LaneEvents.{IsFree, event_at}
-use Rattle.lanes.specs.LaneTimeline.{stands}
+use Rattle.frame_scheduler.specs.LaneEvents.{IsFree, event_at}
+use Rattle.frame_scheduler.specs.LaneTimeline.{stands}
 use Rattle.cue_lists.specs.Rules.Sentences.{IsSound}
-use Rattle.lanes.specs.Timeline.{Timeline}
-use Rattle.lanes.proofs.DoublingLemmas.{free_none}
+use Rattle.frame_scheduler.specs.Timeline.{Timeline}
+use Rattle.frame_scheduler.proofs.DoublingLemmas.{free_none}
 use Rattle.line21_shown.specs.Doing.{does_all}
 use Rattle.line21_shown.specs.Reading.{does_unit, acts}
 use Rattle.line21_shown.proofs.BlindLemmas.{AreBlind, showing, pop_blind}

@@ -11,13 +11,13 @@ use Rattle.line21_codes.specs.Reading.{code_of}
 use Rattle.line21_codes.specs.Repeats.{Blocks, none, doubled, single}
 use Rattle.line21_codes.proofs.RepeatLemmas.{blocks-first, blocks-second}
 use Rattle.line21_codes.specs.NullPairs.{null_pair}
-use Rattle.line21_author.specs.declared.unit.Unit.{Unit}
+use Rattle.frame_scheduler.specs.Unit.{Unit}
 use Rattle.line21_screen.specs.Channels.{ChannelState}
 use Rattle.line21_screen.specs.Fields.{after_code}
 use Rattle.line21_screen.specs.Meaning.{after}
 use Rattle.line21_screen.proofs.MeaningLemmas.{after-none, after-acts, after-ignored}
-use Rattle.lanes.specs.Timeline.{Timeline, repeat_at, repeat_of, slot}
-use Rattle.lanes.proofs.ColumnLemmas.{null_plain}
+use Rattle.frame_scheduler.specs.Timeline.{Timeline, repeat_at, repeat_of, slot}
+use Rattle.frame_scheduler.proofs.ColumnLemmas.{null_plain}
 use Rattle.line21_shown.specs.Doing.{does}
 use Rattle.line21_shown.specs.Reading.{ColumnsAreRead, FieldsAreRead, IsCaptioned, IsForFirst, IsMarked, acts, after_unit, does_unit, field_acts, first_alone, pairs_before}
 

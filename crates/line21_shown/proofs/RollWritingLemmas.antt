@@ -16,10 +16,10 @@ use Rattle.cue_lists.specs.declared.cue.Pen.{Pen}
 use Rattle.cue_lists.specs.declared.cue.Pen.TheVariants.{Line21, Dtv}
 use Rattle.cue_lists.specs.declared.cue.Run.{Run}
 use Rattle.cue_lists.specs.Line21Cues.{IsLine21Pen, IsLine21Run, IsRolled, base_row}
-use Rattle.line21_author.specs.CueCodes.{opening_codes, cue_codes}
-use Rattle.line21_author.specs.FirstChannel.{first_channel}
-use Rattle.line21_author.specs.RunCodes.{is_upright_white, white, tab_codes, white_approach, mid_row_colour, codes_with, run_codes}
-use Rattle.line21_author.specs.TextCodes.{text_codes}
+use Rattle.frame_scheduler.specs.CueCodes.{opening_codes, cue_codes}
+use Rattle.frame_scheduler.specs.FirstChannel.{first_channel}
+use Rattle.frame_scheduler.specs.RunCodes.{is_upright_white, white, tab_codes, white_approach, mid_row_colour, codes_with, run_codes}
+use Rattle.frame_scheduler.specs.TextCodes.{text_codes}
 use Rattle.line21_screen.specs.declared.modes.Mode.{Mode}
 use Rattle.line21_screen.specs.declared.modes.Mode.TheVariants.{Off, PopOn, PaintOn, RollUp}
 use Rattle.line21_screen.specs.Channels.{ChannelState}

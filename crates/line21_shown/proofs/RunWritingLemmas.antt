@@ -13,9 +13,9 @@ use Rattle.cue_lists.specs.declared.cue.Run.{Run}
 use Rattle.cue_lists.specs.AuthoredGrid.{character_at}
 use Rattle.cue_lists.specs.Line21Cues.{IsLine21Run}
 use Rattle.cue_lists.specs.Rules.Cells.{is_white, is_coloured, has_lead}
-use Rattle.line21_author.specs.FirstChannel.{first_channel}
-use Rattle.line21_author.specs.RunCodes.{white, is_upright_white, tab_codes, white_approach, mid_row_colour, approach, run_codes}
-use Rattle.line21_author.specs.TextCodes.{text_codes}
+use Rattle.frame_scheduler.specs.FirstChannel.{first_channel}
+use Rattle.frame_scheduler.specs.RunCodes.{white, is_upright_white, tab_codes, white_approach, mid_row_colour, approach, run_codes}
+use Rattle.frame_scheduler.specs.TextCodes.{text_codes}
 use Rattle.line21_screen.specs.Grid.{Grid, with_cell}
 use Rattle.line21_screen.specs.Pens.{PenState, mid_row_style}
 use Rattle.line21_shown.specs.Doing.{does, does_all}

@@ -12,7 +12,7 @@ use Rattle.cue_lists.specs.declared.cue.Kind.TheVariants as kind
 use Rattle.line21_screen.specs.Channels.{ChannelState}
 use Rattle.line21_screen.specs.Grid.{Grid, empty_grid}
 use Rattle.cue_lists.specs.Rules.Sentences.{AreInSequence, ComesAfter}
-use Rattle.lanes.specs.Timeline.{Timeline}
+use Rattle.frame_scheduler.specs.Timeline.{Timeline}
 use Rattle.cue_lists.proofs.LaneCues.{reverse-cons}
 use Rattle.line21_shown.specs.Reading.{acts}
 use Rattle.line21_shown.proofs.HeadLemmas.{first_sound}

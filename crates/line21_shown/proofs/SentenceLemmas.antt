@@ -19,7 +19,7 @@ use Rattle.cue_lists.specs.declared.cue.Cue.{Cue}
 use Rattle.cue_lists.specs.declared.cue.Kind.{Kind}
 use Rattle.cue_lists.specs.declared.cue.Kind.TheVariants as kind
 use Rattle.cue_lists.specs.declared.cue.Run.{Run}
-use Rattle.line21_author.specs.Channels.{cues_on, is_on}
+use Rattle.frame_scheduler.specs.Channels.{cues_on, is_on}
 use Rattle.cue_lists.specs.Rules.Sentences.{AreInSequence}
 use Rattle.cue_lists.specs.Rules.Sentences.{IsSound}
 use Rattle.cue_lists.proofs.ChannelCues.{cues_on_are_on, cues_on_formed, hides_unless_roll, line21_on}

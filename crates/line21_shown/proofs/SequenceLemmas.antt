@@ -19,23 +19,23 @@ use Rattle.cue_lists.specs.Rules.Lane.{is_line21, is_pop}
 use Rattle.cue_lists.specs.declared.cue.Cue.{Cue}
 use Rattle.cue_lists.specs.declared.lane.Lane.TheVariants.{Channel}
 use Rattle.line21_codes.specs.Channels.{field_of_channel}
-use Rattle.line21_author.specs.Channels.{cues_on}
+use Rattle.frame_scheduler.specs.Channels.{cues_on}
 use Rattle.line21_slots.specs.Cadences.{cadence_of, slot_from}
-use Rattle.line21_author.specs.CueEvents.{channel_events, hide_events}
-use Rattle.line21_author.proofs.SlotSequenceLemmas.{AreInSlots, in_sequence}
+use Rattle.frame_scheduler.specs.CueEvents.{channel_events, hide_events}
+use Rattle.frame_scheduler.proofs.SlotSequenceLemmas.{AreInSlots, in_sequence}
 use Rattle.line21_screen.specs.Channels.{ChannelState}
 use Rattle.line21_screen.specs.Grid.{Grid, empty_grid}
 use Rattle.line21_screen.specs.Meaning.{after}
-use Rattle.lanes.specs.ChannelLane.{IsChannelPlaced, channel_chunks}
+use Rattle.frame_scheduler.specs.ChannelLane.{IsChannelPlaced, channel_chunks}
 use Rattle.frame_scheduler.specs.Columns.{first_pairs}
 use Rattle.cue_lists.specs.Rules.Sentences.{AreInSequence}
-use Rattle.lanes.specs.FieldLane.{field_lane}
-use Rattle.lanes.specs.LaneEvents.{event_at}
-use Rattle.lanes.specs.Placing.{IsPlaced}
-use Rattle.lanes.specs.LaneTimeline.{lane_timeline, stands}
+use Rattle.frame_scheduler.specs.FieldLane.{field_lane}
+use Rattle.frame_scheduler.specs.LaneEvents.{event_at}
+use Rattle.frame_scheduler.specs.Placing.{IsPlaced}
+use Rattle.frame_scheduler.specs.LaneTimeline.{lane_timeline, stands}
 use Rattle.frame_scheduler.specs.Planned.{columns_of}
 use Rattle.frame_scheduler.specs.SlotLists.{slot_cues, slots_in_list}
-use Rattle.lanes.specs.Timeline.{Timeline, column, slot}
+use Rattle.frame_scheduler.specs.Timeline.{Timeline, column, slot}
 use Rattle.frame_scheduler.proofs.ListDoublingLemmas.{channel_timeline, field_one_is, field_two_is}
 use Rattle.frame_scheduler.proofs.SlotLemmas.{slot_cues_formed, slot_sequence}
 use Rattle.cue_lists.proofs.ChannelCues.{cues_on_are_on, cues_on_formed, hides_unless_roll, line21_on, pop_is_not_roll}

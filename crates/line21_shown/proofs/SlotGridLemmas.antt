@@ -21,10 +21,10 @@ use Rattle.cue_lists.specs.declared.cue.Kind.TheVariants as kind
 use Rattle.cue_lists.proofs.ChannelCues.{All-reverse}
 use Rattle.cue_lists.proofs.LaneCues.{reverse-cons}
 use Rattle.line21_slots.specs.Cadences.{has_slot_in, slot_frame, slot_from}
-use Rattle.line21_author.specs.CueSlots.{cues_in_slots, timed_in_slots}
+use Rattle.frame_scheduler.specs.CueSlots.{cues_in_slots, timed_in_slots}
 use Rattle.line21_slots.specs.declared.cadence.Cadence.{Cadence}
 use Rattle.line21_slots.proofs.CadenceLemmas.{frame_not_before, own_frame, slots_rise}
-use Rattle.line21_author.proofs.CueSlotLemmas.{cues_on_slots}
+use Rattle.frame_scheduler.proofs.CueSlotLemmas.{cues_on_slots}
 
 -- the cues of a chain in slots
 still_none : (c : Cadence) (hide : Option ℕ) → is_none (option_map (slot_from c) hide) ≡ is_none hide

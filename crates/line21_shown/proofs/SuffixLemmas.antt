@@ -10,23 +10,23 @@ use Rattle.line21_codes.specs.declared.codes.Control.TheVariants.{Eoc, Edm}
 use Rattle.line21_codes.specs.Writing.{pair_of_code}
 use Rattle.cue_lists.specs.declared.cue.Cue.{Cue}
 use Rattle.cue_lists.specs.Rules.Lane.{is_pop}
-use Rattle.line21_author.specs.Channels.{cues_on, is_on}
-use Rattle.line21_author.specs.CueEvents.{control_event, cue_events, hide_events, is_replaced_at, show_events}
-use Rattle.line21_author.specs.CueUnits.{units_of}
-use Rattle.line21_author.specs.EventOrder.{AreApart, AreFrom}
-use Rattle.line21_author.specs.FirstChannel.{first_channel}
-use Rattle.line21_author.specs.declared.event.Event.{Event}
-use Rattle.line21_author.specs.declared.unit.Unit.{Unit}
-use Rattle.lanes.specs.declared.chunk.FieldChunk.{FieldChunk}
-use Rattle.lanes.specs.ChannelLane.{field_cue_chunks, channel_chunks_from}
+use Rattle.frame_scheduler.specs.Channels.{cues_on, is_on}
+use Rattle.frame_scheduler.specs.CueEvents.{control_event, cue_events, hide_events, is_replaced_at, show_events}
+use Rattle.frame_scheduler.specs.CueUnits.{units_of}
+use Rattle.frame_scheduler.specs.EventOrder.{AreApart, AreFrom}
+use Rattle.frame_scheduler.specs.FirstChannel.{first_channel}
+use Rattle.frame_scheduler.specs.Event.{Event}
+use Rattle.frame_scheduler.specs.Unit.{Unit}
+use Rattle.frame_scheduler.specs.FieldChunk.{FieldChunk}
+use Rattle.frame_scheduler.specs.ChannelLane.{field_cue_chunks, channel_chunks_from}
 use Rattle.cue_lists.specs.Rules.Sentences.{AreInSequence}
-use Rattle.lanes.specs.FieldLane.{end_of, field_lane}
-use Rattle.lanes.specs.LaneEvents.{IsFree, event_at}
-use Rattle.lanes.specs.LaneTimeline.{stands}
-use Rattle.lanes.specs.Placing.{IsPlaced}
-use Rattle.lanes.proofs.DoublingLemmas.{free_none}
-use Rattle.lanes.proofs.FieldLaneLemmas.{end_push}
-use Rattle.lanes.proofs.EventLemmas.{event_none, from_earlier, some_slot}
+use Rattle.frame_scheduler.specs.FieldLane.{end_of, field_lane}
+use Rattle.frame_scheduler.specs.LaneEvents.{IsFree, event_at}
+use Rattle.frame_scheduler.specs.LaneTimeline.{stands}
+use Rattle.frame_scheduler.specs.Placing.{IsPlaced}
+use Rattle.frame_scheduler.proofs.DoublingLemmas.{free_none}
+use Rattle.frame_scheduler.proofs.FieldLaneLemmas.{end_push}
+use Rattle.frame_scheduler.proofs.EventLemmas.{event_none, from_earlier, some_slot}
 use Rattle.line21_shown.proofs.LoadingLemmas.{StandBeside, erases}
 
 -- the chunks are the units of the cues, in their order

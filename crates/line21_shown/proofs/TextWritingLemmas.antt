@@ -13,8 +13,8 @@ use Rattle.line21_codes.specs.declared.styles.Style.{Style}
 use Rattle.line21_codes.specs.BasicCharacters.{basic_characters, basic_of}
 use Rattle.line21_codes.specs.Spellings.{spelling_of, Shows}
 use Rattle.line21_codes.proofs.CharacterLemmas.{spelling_of-shows}
-use Rattle.line21_author.specs.FirstChannel.{first_channel}
-use Rattle.line21_author.specs.TextCodes.{packed, text_codes}
+use Rattle.frame_scheduler.specs.FirstChannel.{first_channel}
+use Rattle.frame_scheduler.specs.TextCodes.{packed, text_codes}
 use Rattle.line21_screen.specs.Channels.{ChannelState}
 use Rattle.line21_screen.specs.Fields.{after_character, after_text}
 use Rattle.line21_screen.specs.Grid.{Grid, with_cell}

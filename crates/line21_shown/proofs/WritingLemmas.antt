@@ -6,7 +6,7 @@ use Rattle.std.proofs.lemmas.List.Elements.{All-head, All-tail}
 use Rattle.cue_lists.specs.declared.cue.Run.{Run}
 use Rattle.cue_lists.specs.Line21Cues.{IsLine21Run}
 use Rattle.cue_lists.specs.Rules.Cells.{covers}
-use Rattle.line21_author.specs.RunCodes.{run_codes}
+use Rattle.frame_scheduler.specs.RunCodes.{run_codes}
 use Rattle.line21_screen.specs.declared.modes.Mode.{Mode}
 use Rattle.line21_screen.specs.declared.modes.Mode.TheVariants.{Off, PopOn, PaintOn, RollUp}
 use Rattle.line21_screen.specs.Channels.{ChannelState}

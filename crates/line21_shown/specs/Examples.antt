@@ -14,11 +14,11 @@ use Rattle.cue_lists.specs.Rules.Examples.{example_cue, example_run}
 use Rattle.cue_lists.specs.declared.cue.Cue.{Cue}
 use Rattle.cue_lists.specs.declared.cue.Kind.TheVariants.{Pop, Roll}
 use Rattle.line21_screen.specs.Meaning.{after}
-use Rattle.line21_author.specs.CueEvents.{channel_events}
-use Rattle.lanes.specs.ChannelLane.{channel_chunks}
-use Rattle.lanes.specs.LaneTimeline.{lane_timeline}
-use Rattle.lanes.specs.Timeline.{column}
-use Rattle.lanes.specs.LaneEvents.{event_at}
+use Rattle.frame_scheduler.specs.CueEvents.{channel_events}
+use Rattle.frame_scheduler.specs.ChannelLane.{channel_chunks}
+use Rattle.frame_scheduler.specs.LaneTimeline.{lane_timeline}
+use Rattle.frame_scheduler.specs.Timeline.{column}
+use Rattle.frame_scheduler.specs.LaneEvents.{event_at}
 
 -- a pair, of its two bytes with their parity bits
 abbrev pub pair : ℕ → ℕ → Pair

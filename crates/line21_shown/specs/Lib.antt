@@ -1,3 +1,14 @@
+pub use Rattle.cue_lists.specs.AuthoredServiceGrid
+pub use Rattle.cue_lists.specs.Cues
+pub use Rattle.cue_lists.specs.Listing
+pub use Rattle.cue_lists.specs.Rules
+pub use Rattle.cue_lists.specs.Shares
+pub use Rattle.cue_lists.specs.declared.cue.Cue
+pub use Rattle.cue_lists.specs.declared.cue.Kind
+pub use Rattle.cue_lists.specs.declared.cue.WinCue
+pub use Rattle.cue_lists.specs.declared.lane.Lane
+pub use Rattle.frame_scheduler.specs.Columns
+pub use Rattle.frame_scheduler.specs.SlotLists
 pub mod Doing
 pub mod Writing
 pub mod Reading

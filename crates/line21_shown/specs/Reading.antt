@@ -9,11 +9,11 @@ use Rattle.line21_codes.specs.declared.codes.Code.TheVariants.{Null, Text, Xds, 
 use Rattle.line21_codes.specs.declared.pairs.Pair.{Pair}
 use Rattle.line21_codes.specs.ControlPairs.{is_control}
 use Rattle.line21_codes.specs.Reading.{code_of}
-use Rattle.line21_author.specs.declared.unit.Unit.{Unit}
+use Rattle.frame_scheduler.specs.Unit.{Unit}
 use Rattle.line21_screen.specs.Channels.{ChannelState, new_channel}
 use Rattle.line21_screen.specs.Fields.{FieldState, after_code, new_field}
 use Rattle.line21_screen.specs.Meaning.{after}
-use Rattle.lanes.specs.Timeline.{Timeline, repeat_of, slot}
+use Rattle.frame_scheduler.specs.Timeline.{Timeline, repeat_of, slot}
 use Rattle.line21_shown.specs.Doing.{does}
 
 -- the pairs of the frames below n, the newest first

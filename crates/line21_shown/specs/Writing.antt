@@ -9,7 +9,7 @@ use Rattle.cue_lists.specs.declared.cue.Run.{Run}
 use Rattle.cue_lists.specs.AuthoredGrid.{cell_in}
 use Rattle.cue_lists.specs.Line21Cues.{IsLine21Run}
 use Rattle.cue_lists.specs.Rules.Cells.{covers, end_column}
-use Rattle.line21_author.specs.RunCodes.{run_codes}
+use Rattle.frame_scheduler.specs.RunCodes.{run_codes}
 use Rattle.line21_screen.specs.declared.modes.Mode.{Mode}
 use Rattle.line21_screen.specs.declared.modes.Mode.TheVariants.{Off, PopOn, PaintOn, RollUp}
 use Rattle.line21_screen.specs.Channels.{ChannelState}

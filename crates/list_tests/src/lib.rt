@@ -1,8 +1,11 @@
-//! Tests of cue lists, of the lanes that place what they send, and of the frames of whole lists.
+//! Tests of cue lists, of the lanes that place what they send, of the frames of whole lists, and of the runs
+//! that put them.
 #![tactic(auto)]
 
 #[cfg(test)]
 mod budgets;
+#[cfg(test)]
+mod building;
 #[cfg(test)]
 mod carried_frames;
 #[cfg(test)]
@@ -14,11 +17,17 @@ mod data_beside_captions;
 #[cfg(test)]
 mod data_lists;
 #[cfg(test)]
+mod dual_runs;
+#[cfg(test)]
 mod field_sizes;
 #[cfg(test)]
 mod fields;
 #[cfg(test)]
 mod list_rules;
+#[cfg(test)]
+mod load_runs;
+#[cfg(test)]
+mod loads;
 #[cfg(test)]
 mod overlaid_frames;
 #[cfg(test)]

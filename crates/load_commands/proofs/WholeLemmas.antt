@@ -7,9 +7,9 @@ use Rattle.cue_lists.specs.declared.lane.Lane.TheVariants.{Service}
 use Rattle.cue_list_commands.proofs.Outputs.{byte_pairs}
 use Rattle.frame_carrier.proofs.CarriedLemmas.{frames_carried}
 use Rattle.frame_scheduler.specs.Planned.{IsListPlaced, Placement, columns_of}
-use Rattle.services_shown.specs.PlacedServices.{AreServicesPlaced}
-use Rattle.services_shown.proofs.ChannelLemmas.{programmes_whole}
-use Rattle.services_shown.proofs.RoomLemmas.{blocks_bytes, frames_roomy, has_blocks}
+use Rattle.cue_list_commands.specs.PlacedServices.{AreServicesPlaced}
+use Rattle.cue_list_commands.proofs.ChannelLemmas.{programmes_whole}
+use Rattle.cue_list_commands.proofs.RoomLemmas.{blocks_bytes, frames_roomy, has_blocks}
 use Rattle.services_files.specs.Services.{services_say}
 use Rattle.services_files.specs.CaptionChannel.{caption_channel}
 use Rattle.services_files.proofs.ChannelFiles.{offence_is_refused}

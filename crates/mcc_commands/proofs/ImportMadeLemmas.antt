@@ -4,11 +4,11 @@ use Rattle.anc_words.specs.Writing.{packet_bytes}
 use Rattle.cc_base.specs.Rate.{triplets_in_frame}
 use Rattle.cc_base.specs.declared.rate.Rate.{Rate}
 use Rattle.words_files.proofs.CarriedWordsLemmas.{length-carried_triplets}
-use Rattle.frame_carrier.specs.Carrying.{frame_bytes}
-use Rattle.frame_carrier.specs.FrameTriplets.{frame_triplets}
-use Rattle.frame_carrier.proofs.CarryingLemmas.{front_few, frame_number, triplets_many}
-use Rattle.frame_scheduler.specs.End.{silent_frame}
-use Rattle.frame_scheduler.specs.declared.frames.FrameBytes.{FrameBytes}
+use Rattle.mcc_words.specs.Carrying.{frame_bytes}
+use Rattle.mcc_words.specs.FrameTriplets.{frame_triplets}
+use Rattle.mcc_words.proofs.CarryingLemmas.{front_few, frame_number, triplets_many}
+use Rattle.frame_carrier.specs.End.{silent_frame}
+use Rattle.frame_carrier.specs.FrameBytes.{FrameBytes}
 use Rattle.mcc_files.specs.MccFiles.{TimedPackets}
 use Rattle.mcc_files.specs.Payloads.{Payload}
 use Rattle.mcc_files.specs.PayloadWords.{payload_words}

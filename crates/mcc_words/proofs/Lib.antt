@@ -1,3 +1,4 @@
+pub use Rattle.frame_carrier.proofs.CarryingLemmas
 pub mod CaptionTests
 pub mod CloseLemmas
 pub mod MakerLemmas

@@ -1,3 +1,5 @@
+pub use Rattle.frame_carrier.specs.Carrying
+pub use Rattle.frame_carrier.specs.FrameTriplets
 pub mod Missing
 pub mod Raised
 pub mod MccWords

@@ -1,3 +1,4 @@
+pub use Rattle.cc_receiver.specs.ReceivedServices
 pub mod HalvedServices
 pub mod UndelayedServices
 pub mod GoodStreams

@@ -5,6 +5,7 @@
 pub use crate::line::text_of;
 pub use crate::report::{Report, TEXT, report_of};
 pub use crate::run::run_in_memory;
+pub use ccsuite_cli::{Command, MOST_LOAD};
 
 mod line;
 mod report;

@@ -10,7 +10,7 @@ use Rattle.cc_base.specs.declared.why.Why.TheVariants as why
 use Rattle.cc_base.specs.Steps.{IsTaken, front_from, step_parts}
 use Rattle.cc_base.specs.Syntax.{AllRead, AllTaken, Reads, open_behind, parts_from, parts_of}
 use Rattle.cc_base.proofs.SyntaxLemmas.{AllTaken-append, AllTaken-split, Reads-append, Reads-item, Reads-nothing, parts_from-append}
-use Rattle.cc_data.specs.declared.triplet.Triplet.{Triplet}
+use Rattle.channel_packets.specs.Triplet.{Triplet}
 use Rattle.channel_packets.specs.declared.parts.PacketPart.{PacketPart}
 use Rattle.channel_packets.specs.declared.parts.PacketPart.TheVariants.{Header, Byte}
 use Rattle.channel_packets.specs.ChannelPackets.{ChannelPacket, continues_packet, is_gap, number_of, size_of, starts}

@@ -2,7 +2,7 @@
 use Rattle.std.proofs.Common.{◌≡◌, ◌∙◌, ◌||◌, Bool, true, false, List, [], ◌∷◌, ◌++◌, map, cond, refl, sym, ap, subst}
 use Rattle.std.specs.List.{flat_map, list_all}
 use Rattle.std.proofs.lemmas.Bool.{and_parts}
-use Rattle.cc_data.specs.declared.triplet.Triplet.{Triplet}
+use Rattle.channel_packets.specs.Triplet.{Triplet}
 use Rattle.channel_packets.specs.ChannelPackets.{AreChannelPackets, ChannelPacket, TripletStretch, channel_triplets, continues_packet, is_stretch, starts, stretch_packet, stretch_triplets}
 use Rattle.service_blocks.specs.Channels.{AreChannel, HaveBlocks, IsHeard}
 use Rattle.service_blocks.specs.ServiceBlocks.{Block}

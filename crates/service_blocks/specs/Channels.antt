@@ -4,7 +4,7 @@
 use Rattle.std.specs.Prelude.{ℕ, if◌then◌else◌, List, [], ◌∷◌, ◌++◌, Option, Some, ⊤}
 use Rattle.std.specs.List.{flat_map}
 use Rattle.cc_base.specs.Syntax.{AllRead, AllTaken, open_behind, parts_from, parts_of}
-use Rattle.cc_data.specs.declared.triplet.Triplet.{Triplet}
+use Rattle.channel_packets.specs.Triplet.{Triplet}
 use Rattle.channel_packets.specs.ChannelPackets.{AreChannelPackets, ChannelPacket, is_gap, number_of, size_of}
 use Rattle.channel_packets.specs.Reading.{packet_syntax}
 use Rattle.service_blocks.specs.declared.parts.BlockPart.{BlockPart}

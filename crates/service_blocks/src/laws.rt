@@ -8,7 +8,7 @@ ghost use Rattle.cc_base.specs.declared.why.Why.TheVariants as why;
 ghost use Rattle.cc_base.specs.Feeding.{Verdict};
 ghost use Rattle.cc_base.specs.Steps.{AreAccepted};
 ghost use Rattle.cc_base.specs.Syntax.{AllRead, AllTaken, Reads, parts_of, read_under};
-ghost use Rattle.cc_data.specs.declared.triplet.Triplet.{Triplet};
+ghost use Rattle.channel_packets.specs.Triplet.{Triplet};
 ghost use Rattle.channel_packets.specs.declared.parts.PacketPart.{PacketPart as Part};
 ghost use Rattle.channel_packets.specs.declared.parts.PacketPart.TheVariants as packet_part;
 ghost use Rattle.channel_packets.specs.ChannelPackets.{ChannelPacket};

@@ -3,8 +3,8 @@ use Rattle.std.proofs.Common.{◌≡◌, ℕ, ◌<◌, ◌≤◌, ◌⊎◌, inl
 use Rattle.std.specs.List.{All}
 use Rattle.cc_base.specs.declared.refusal.Refusal.{Refusal}
 use Rattle.cc_base.specs.Syntax.{open_behind}
-use Rattle.anc_words.specs.Ending.{bytes_to_end}
-use Rattle.anc_words.specs.Reading.{anc_syntax, nothing_open}
+use Rattle.words_files.specs.Ending.{bytes_to_end}
+use Rattle.words_files.specs.Reading.{anc_syntax, nothing_open}
 use Rattle.cdp_packets.specs.PacketParts.{packet_parts}
 use Rattle.cdp_packets.specs.Packets.{Frame}
 use Rattle.words_files.specs.Catching.{caught_in, refusal_of}

@@ -1,3 +1,6 @@
+pub use Rattle.words_files.proofs.FrameLemmas
+pub use Rattle.words_files.proofs.FramesOfLemmas
+pub use Rattle.words_files.proofs.OffenceLemmas
 pub mod TakenLemmas
 pub mod PendingLemmas
 pub mod FillingLemmas

@@ -1,3 +1,14 @@
+pub use Rattle.dtvcc_screen.specs.Cores
+pub use Rattle.dtvcc_screen.specs.Meaning
+pub use Rattle.dtvcc_screen.specs.Objects
+pub use Rattle.dtvcc_screen.specs.Screens
+pub use Rattle.dtvcc_screen.specs.Shown
+pub use Rattle.words_files.specs.Catching
+pub use Rattle.words_files.specs.Frames
+pub use Rattle.words_files.specs.FramesOf
+pub use Rattle.words_files.specs.Layers
+pub use Rattle.words_files.specs.Offences
+pub use Rattle.words_files.specs.Received
 pub mod Services
 pub mod CarriedChannel
 pub mod Said

@@ -7,7 +7,7 @@ ghost use Rattle.cc_base.specs.declared.why.Why.{Why as Reason};
 ghost use Rattle.cc_base.specs.declared.why.Why.TheVariants as why;
 ghost use Rattle.cc_base.specs.Steps.{AreAccepted};
 ghost use Rattle.cc_base.specs.Syntax.{open_behind};
-ghost use Rattle.anc_words.specs.Reading.{anc_syntax, nothing_open};
+ghost use Rattle.words_files.specs.Reading.{anc_syntax, nothing_open};
 ghost use Rattle.cdp_packets.specs.declared.parts.CdpPart.{CdpPart as Part};
 ghost use Rattle.cdp_packets.specs.declared.parts.CdpPart.TheVariants as part;
 ghost use Rattle.cdp_packets.specs.PacketParts.{packet_parts};

@@ -1,12 +1,12 @@
 -- No byte of the frames of a placed list fills the buffer of a service.
 use Rattle.std.proofs.Common.{List, sym, subst}
 use Rattle.dtvcc_screen.specs.Meaning.{Event, start}
-use Rattle.cue_lists.specs.Listing.{IsFormed, Listing}
-use Rattle.cue_lists.specs.Rules.{IsRuled}
-use Rattle.cue_lists.specs.declared.lane.Lane.TheVariants.{Service}
+use Rattle.line21_shown.specs.Listing.{IsFormed, Listing}
+use Rattle.line21_shown.specs.Rules.{IsRuled}
+use Rattle.line21_shown.specs.Lane.TheVariants.{Service}
 use Rattle.windows_shown.specs.Filling.{AllFill}
 use Rattle.frame_carrier.specs.Carrying.{column_packets}
-use Rattle.frame_scheduler.specs.Planned.{Placement, columns_of}
+use Rattle.frame_carrier.specs.Planned.{Placement, columns_of}
 use Rattle.services_shown.specs.PlacedServices.{AreServicesPlaced}
 use Rattle.windows_shown.specs.AuthoredShown.{list_lane}
 use Rattle.services_shown.specs.Buffers.{BuffersNeverFill}

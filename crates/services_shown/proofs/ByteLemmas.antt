@@ -5,11 +5,11 @@ use Rattle.std.specs.List.{cons_option, flat_map, list_any, zip}
 use Rattle.std.proofs.lemmas.Bool.Decides.{nat_tests}
 use Rattle.std.proofs.lemmas.List.Elements.{All-append, All-cons, All-head, All-nil, All-tail}
 use Rattle.cc_base.specs.declared.rate.Rate.{Rate}
-use Rattle.cue_lists.specs.Cues.{IsCueFormed, IsOfKind}
-use Rattle.cue_lists.specs.declared.cue.Cue.{Cue}
-use Rattle.cue_lists.specs.declared.cue.Kind.{Kind}
-use Rattle.cue_lists.specs.declared.cue.Kind.TheVariants.{Pop, Paint, Roll, Win}
-use Rattle.cue_lists.specs.declared.cue.WinCue.{WinCue}
+use Rattle.line21_shown.specs.Cues.{IsCueFormed, IsOfKind}
+use Rattle.line21_shown.specs.Cue.{Cue}
+use Rattle.line21_shown.specs.Kind.{Kind}
+use Rattle.line21_shown.specs.Kind.TheVariants.{Pop, Paint, Roll, Win}
+use Rattle.line21_shown.specs.WinCue.{WinCue}
 use Rattle.dtvcc_codes.specs.declared.commands.Command.{Command}
 use Rattle.dtvcc_codes.specs.declared.commands.Command.TheVariants.{Dlw, Dly, Dsw}
 use Rattle.dtvcc_codes.specs.Spellable.{IsSpellable, is_skipped}
@@ -21,10 +21,10 @@ use Rattle.dtvcc_author.specs.WindowCommands.{commands_of}
 use Rattle.dtvcc_author.specs.FrameEvents.{delay_commands, delayed_at, event_bytes, event_commands, is_delayed_at, is_hidden_at, is_shown_at, names, windows_byte, windows_command}
 use Rattle.dtvcc_author.specs.declared.caption.Caption.{Caption}
 use Rattle.dtvcc_author.proofs.WritableLemmas.{commands_writable}
-use Rattle.lanes.specs.ServiceBytes.{bytes_in, loads_at}
-use Rattle.lanes.specs.ServiceChunks.{chunk_of, chunks_with, service_chunks, service_chunks_from}
-use Rattle.lanes.specs.Chunks.{ServiceChunk}
-use Rattle.frame_scheduler.specs.Blocks.{service_block}
+use Rattle.frame_carrier.specs.ServiceBytes.{bytes_in, loads_at}
+use Rattle.frame_carrier.specs.ServiceChunks.{chunk_of, chunks_with, service_chunks, service_chunks_from}
+use Rattle.frame_carrier.specs.Chunks.{ServiceChunk}
+use Rattle.frame_carrier.specs.Blocks.{service_block}
 
 -- a byte
 abbrev pub IsByte : ℕ → Type 0

@@ -16,8 +16,8 @@ use Rattle.service_blocks.specs.BlockParts.{block_parts}
 use Rattle.service_blocks.specs.Channels.{AreChannel, said}
 use Rattle.service_blocks.specs.ServiceBlocks.{AreBlocks, Block, end, ended}
 use Rattle.service_blocks.specs.Written.{block_for, block_written}
-use Rattle.services_files.specs.CarriedChannel.{file_triplets}
-use Rattle.frame_scheduler.specs.Columns.{Columns}
+use Rattle.cc_receiver.specs.CarriedChannel.{file_triplets}
+use Rattle.frame_carrier.specs.Columns.{Columns}
 use Rattle.frame_carrier.specs.Carrying.{channel_packet, channel_packet_of, column_packets, frame_packet, packet_count, packets_before}
 use Rattle.services_shown.specs.ServicesCarried.{HasBlocks, IsSent, ProgrammesAreWhole, Sent, sent_bytes}
 

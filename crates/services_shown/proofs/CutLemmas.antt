@@ -3,8 +3,8 @@ use Rattle.std.proofs.Common.{◌≡◌, ◌∙◌, ℕ, ◌<◌, true, List, []
 use Rattle.std.specs.List.{flat_map, zip}
 use Rattle.std.proofs.lemmas.List.Elements.{All-append, All-cons, All-head, All-nil, All-tail}
 use Rattle.cc_base.specs.declared.rate.Rate.{Rate}
-use Rattle.cue_lists.specs.Cues.{IsCueFormed}
-use Rattle.cue_lists.specs.declared.cue.Cue.{Cue}
+use Rattle.line21_shown.specs.Cues.{IsCueFormed}
+use Rattle.line21_shown.specs.Cue.{Cue}
 use Rattle.dtvcc_codes.specs.Cut.{IsCut}
 use Rattle.dtvcc_codes.specs.Writing.{bytes_of_command}
 use Rattle.dtvcc_codes.specs.declared.commands.Command.{Command}
@@ -15,8 +15,8 @@ use Rattle.dtvcc_author.specs.FrameEvents.{event_bytes, event_commands}
 use Rattle.windows_shown.proofs.PlacedLanesLemmas.{loads_hold}
 use Rattle.windows_shown.proofs.UnitLemmas.{is_loading, units_hold}
 use Rattle.windows_shown.proofs.WrittenLemmas.{spelled_by}
-use Rattle.lanes.specs.ServiceBytes.{bytes_in, loads_at}
-use Rattle.lanes.specs.ServiceChunks.{service_chunks}
+use Rattle.frame_carrier.specs.ServiceBytes.{bytes_in, loads_at}
+use Rattle.frame_carrier.specs.ServiceChunks.{service_chunks}
 use Rattle.services_shown.proofs.ByteLemmas.{captions_short, events_writable}
 
 -- no bytes are cut into no commands

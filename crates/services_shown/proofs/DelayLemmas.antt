@@ -7,14 +7,14 @@ use Rattle.std.proofs.lemmas.Bool.{and_parts, eq-eqb, eqb-true, ne_eqb}
 use Rattle.std.proofs.lemmas.Bool.Decides.{nat_tests}
 use Rattle.std.proofs.lemmas.List.Elements.{All-append, All-cons, All-contains, All-nil, All-weaker}
 use Rattle.cc_base.specs.declared.rate.Rate.{Rate}
-use Rattle.cue_lists.specs.Cues.{IsCueFormed, IsOfKind}
-use Rattle.cue_lists.specs.Listing.{IsFormed, Listing}
-use Rattle.cue_lists.specs.Rules.{IsRuled}
-use Rattle.cue_lists.specs.declared.cue.Cue.{Cue}
-use Rattle.cue_lists.specs.declared.cue.Kind.{Kind}
-use Rattle.cue_lists.specs.declared.cue.Kind.TheVariants.{Win}
-use Rattle.cue_lists.specs.declared.cue.WinCue.{WinCue}
-use Rattle.cue_lists.specs.declared.lane.Lane.TheVariants.{Service}
+use Rattle.line21_shown.specs.Cues.{IsCueFormed, IsOfKind}
+use Rattle.line21_shown.specs.Listing.{IsFormed, Listing}
+use Rattle.line21_shown.specs.Rules.{IsRuled}
+use Rattle.line21_shown.specs.Cue.{Cue}
+use Rattle.line21_shown.specs.Kind.{Kind}
+use Rattle.line21_shown.specs.Kind.TheVariants.{Win}
+use Rattle.line21_shown.specs.WinCue.{WinCue}
+use Rattle.line21_shown.specs.Lane.TheVariants.{Service}
 use Rattle.dtvcc_codes.specs.Cut.{IsCut}
 use Rattle.dtvcc_codes.specs.declared.commands.Command.{Command}
 use Rattle.dtvcc_codes.specs.declared.commands.Command.TheVariants.{Put, Dlw, Dly, Dsw, Spa, Spc, Spl, Swa, Df}
@@ -28,9 +28,9 @@ use Rattle.dtvcc_author.specs.declared.frame_events.Delay.{Delay}
 use Rattle.dtvcc_author.proofs.LatestLemmas.{Has, find_delayed, kept_sound}
 use Rattle.windows_shown.proofs.CaptionLanesLemmas.{none_passes, starting}
 use Rattle.windows_shown.proofs.UnitLemmas.{is_loading}
-use Rattle.frame_scheduler.specs.Planned.{Placement, service_bytes}
-use Rattle.lanes.proofs.CaptionsKept.{captions_kept}
-use Rattle.lanes.proofs.DelayLemmas.{delay_some, two_of}
+use Rattle.frame_carrier.specs.Planned.{Placement, service_bytes}
+use Rattle.frame_carrier.proofs.CaptionsKept.{captions_kept}
+use Rattle.frame_carrier.proofs.DelayLemmas.{delay_some, two_of}
 use Rattle.services_shown.specs.Delays.{AreDelaysSent, IsDelaySent, shows}
 use Rattle.services_shown.proofs.CutLemmas.{frame_cut, frame_loads}
 use Rattle.windows_shown.proofs.NamedLemmas.{named_is}

@@ -3,12 +3,12 @@ use Rattle.std.proofs.Common.{◌≡◌, ◌∙◌, ℕ, zero, suc, ◌≤◌, �
 use Rattle.std.specs.List.{flat_map}
 use Rattle.std.proofs.lemmas.Bool.{eqb-true}
 use Rattle.std.proofs.lemmas.Grind.{flat_map-append}
-use Rattle.cue_lists.specs.Listing.{IsFormed, Listing, share_of}
-use Rattle.cue_lists.specs.Rules.{IsRuled}
-use Rattle.cue_lists.specs.declared.lane.Lane.TheVariants.{Service}
-use Rattle.frame_scheduler.specs.Planned.{Placement, columns_of, service_bytes, services}
+use Rattle.line21_shown.specs.Listing.{IsFormed, Listing, share_of}
+use Rattle.line21_shown.specs.Rules.{IsRuled}
+use Rattle.line21_shown.specs.Lane.TheVariants.{Service}
+use Rattle.frame_carrier.specs.Planned.{Placement, columns_of, service_bytes, services}
 use Rattle.services_shown.specs.PlacedServices.{AreServicesPlaced}
-use Rattle.frame_scheduler.proofs.ServicesLemmas.{share_is, unshared}
+use Rattle.frame_carrier.proofs.ServicesLemmas.{share_is, unshared}
 use Rattle.services_shown.specs.ServicesCarried.{Sent}
 use Rattle.services_shown.specs.Told.{HighAreUnshared, ServicesAreTold, sent_to}
 use Rattle.services_shown.proofs.RoomLemmas.{blocks_sent, has_blocks, sent_of, unshared_silent}

@@ -2,9 +2,9 @@
 use Rattle.std.proofs.Common.{◌≡◌, ℕ, zero, suc, ◌≤◌, refl, sym, ap, subst, ◌∙◌, take, arith}
 use Rattle.std.specs.List.{zip}
 use Rattle.std.proofs.lemmas.List.{take_all}
-use Rattle.cue_lists.specs.Listing.{IsFormed, Listing}
-use Rattle.cue_lists.specs.Rules.{IsRuled}
-use Rattle.cue_lists.specs.declared.lane.Lane.TheVariants.{Service}
+use Rattle.line21_shown.specs.Listing.{IsFormed, Listing}
+use Rattle.line21_shown.specs.Rules.{IsRuled}
+use Rattle.line21_shown.specs.Lane.TheVariants.{Service}
 use Rattle.dtvcc_screen.specs.Meaning.{Served, served_after, start}
 use Rattle.dtvcc_screen.proofs.MeaningLemmas.{after_append}
 use Rattle.windows_shown.specs.Filling.{AllFill}
@@ -13,13 +13,13 @@ use Rattle.windows_shown.specs.Soundness.{IsSoundLane}
 use Rattle.windows_shown.proofs.CaptionLanesLemmas.{lane_bytes_are, lane_sound}
 use Rattle.windows_shown.proofs.FrameLemmas.{buffer_keeps, fill_append}
 use Rattle.frame_carrier.specs.Carrying.{column_packets}
-use Rattle.frame_scheduler.specs.Planned.{Placement, captions_in, chunks_in, columns_of, service_bytes, share_in}
+use Rattle.frame_carrier.specs.Planned.{Placement, captions_in, chunks_in, columns_of, service_bytes, share_in}
 use Rattle.services_shown.specs.PlacedServices.{AreServicesPlaced}
-use Rattle.lanes.proofs.CaptionsKept.{captions_kept}
+use Rattle.frame_carrier.proofs.CaptionsKept.{captions_kept}
 use Rattle.services_shown.specs.Told.{told}
 use Rattle.services_shown.proofs.LaneLemmas.{services_told}
 use Rattle.services_shown.proofs.ToldLemmas.{packets_count, told_same}
-use Rattle.services_files.specs.Events.{service_events}
+use Rattle.cc_receiver.specs.Events.{service_events}
 use Rattle.windows_shown.specs.AuthoredShown.{list_lane}
 
 -- the frames of a lane lead where it says

@@ -1,3 +1,8 @@
+pub use Rattle.frame_carrier.proofs.CarryingLemmas
+pub use Rattle.line21_shown.proofs.CaptionedLemmas
+pub use Rattle.line21_shown.proofs.SequenceLemmas
+pub use Rattle.windows_shown.proofs.CaptionLanesLemmas
+pub use Rattle.windows_shown.proofs.ShownLemmas
 pub mod RoomLemmas
 pub mod ByteLemmas
 pub mod ChannelLemmas

@@ -4,14 +4,14 @@ use Rattle.cc_base.specs.Rate.{triplets_in_frame}
 use Rattle.cdp_packets.specs.Packets.{Frame}
 use Rattle.cc_data.specs.declared.triplet.Triplet.{Triplet}
 use Rattle.line21_codes.specs.declared.pairs.Pair.{Pair}
-use Rattle.frame_scheduler.specs.Columns.{Columns}
+use Rattle.frame_carrier.specs.Columns.{Columns}
 use Rattle.frame_carrier.specs.Carrying.{channel_packet, channel_packet_of, column_packets, packet_count, packets_before}
 use Rattle.cc_base.specs.declared.rate.Rate.{Rate}
-use Rattle.cue_lists.specs.Shares.{share_room}
+use Rattle.line21_shown.specs.Shares.{share_room}
 use Rattle.dtvcc_screen.specs.Meaning.{Byte, Event, Tick, served_after, start}
 use Rattle.dtvcc_screen.specs.Shown.{grids}
 use Rattle.windows_shown.specs.Filling.{AllFill}
-use Rattle.services_files.specs.Events.{service_events}
+use Rattle.cc_receiver.specs.Events.{service_events}
 use Rattle.frame_carrier.specs.FrameTriplets.{field_triplets, front_triplets}
 use Rattle.services_shown.specs.ServicesCarried.{HasBlocks}
 use Rattle.services_shown.proofs.ToldLemmas.{columns_told}

@@ -1,14 +1,14 @@
 -- The service blocks of a placed cue list are fit, and each service is told at most its share.
 use Rattle.std.proofs.Common.{◌≡◌, ◌∙◌, ◌++◌, ◌∷◌, ◌≤◌, ℕ, suc, List, Option, Some, None, length, map, ap, arith, refl, sym}
 use Rattle.std.specs.Prelude.{unwrap_or}
-use Rattle.cue_lists.specs.Listing.{IsFormed, Listing, share_of}
-use Rattle.cue_lists.specs.Rules.{IsRuled}
-use Rattle.cue_lists.specs.declared.lane.Lane.TheVariants.{Service}
+use Rattle.line21_shown.specs.Listing.{IsFormed, Listing, share_of}
+use Rattle.line21_shown.specs.Rules.{IsRuled}
+use Rattle.line21_shown.specs.Lane.TheVariants.{Service}
 use Rattle.dtvcc_screen.specs.Meaning.{Byte, Event, Tick}
 use Rattle.frame_carrier.specs.Carrying.{column_packets}
-use Rattle.frame_scheduler.proofs.ServicesLemmas.{share_is}
-use Rattle.frame_scheduler.specs.Planned.{Placement, captions_in, chunks_in, columns_of, service_bytes, share_in}
-use Rattle.lanes.proofs.PlaceLemmas.{within_share}
+use Rattle.frame_carrier.proofs.ServicesLemmas.{share_is}
+use Rattle.frame_carrier.specs.Planned.{Placement, captions_in, chunks_in, columns_of, service_bytes, share_in}
+use Rattle.frame_carrier.proofs.PlaceLemmas.{within_share}
 use Rattle.services_shown.proofs.RoomLemmas.{blocks_bytes, blocks_within, frames_roomy, has_blocks, unshared_silent}
 use Rattle.services_shown.proofs.LaneLemmas.{services_told}
 use Rattle.services_shown.specs.PlacedServices.{AreServicesPlaced}

@@ -10,24 +10,24 @@ use Rattle.cc_base.specs.declared.rate.Rate.TheVariants as rate
 use Rattle.line21_codes.specs.declared.channels.Chan.TheVariants.{Cc1, Cc3}
 use Rattle.line21_codes.specs.declared.pairs.Pair.{Pair}
 use Rattle.line21_slots.specs.Cadences.{cadence_of, slot_in}
-use Rattle.cue_lists.specs.Listing.{IsFormed, IsListRate, Listing, share_of}
-use Rattle.cue_lists.specs.Rules.{IsRuled}
-use Rattle.cue_lists.specs.Shares.{share_room}
-use Rattle.cue_lists.specs.declared.lane.Lane.TheVariants.{Channel, Service}
+use Rattle.line21_shown.specs.Listing.{IsFormed, IsListRate, Listing, share_of}
+use Rattle.line21_shown.specs.Rules.{IsRuled}
+use Rattle.line21_shown.specs.Shares.{share_room}
+use Rattle.line21_shown.specs.Lane.TheVariants.{Channel, Service}
 use Rattle.service_blocks.specs.Written.{block_written}
-use Rattle.lanes.specs.ServiceBytes.{bytes_in}
-use Rattle.lanes.proofs.ChunkOrderLemmas.{none_sent}
+use Rattle.frame_carrier.specs.ServiceBytes.{bytes_in}
+use Rattle.frame_carrier.proofs.ChunkOrderLemmas.{none_sent}
 use Rattle.services_shown.specs.ServicesCarried.{HasBlocks, IsSent, Sent, sent_bytes}
 use Rattle.services_shown.specs.Told.{UnsharedAreSilent}
-use Rattle.lanes.proofs.PlaceLemmas.{within_share}
-use Rattle.frame_scheduler.specs.Blocks.{service_block}
-use Rattle.frame_scheduler.specs.Planned.{Placement, captions_in, channel_pair, chunks_in, columns_of, frame_blocks, service_bytes, services, share_in}
+use Rattle.frame_carrier.proofs.PlaceLemmas.{within_share}
+use Rattle.frame_carrier.specs.Blocks.{service_block}
+use Rattle.frame_carrier.specs.Planned.{Placement, captions_in, channel_pair, chunks_in, columns_of, frame_blocks, service_bytes, services, share_in}
 use Rattle.services_shown.specs.PlacedServices.{AreServicesPlaced}
-use Rattle.frame_scheduler.proofs.PlanLemmas.{no_block, room_most, weight, weight_is, weights, weights_taken}
-use Rattle.frame_scheduler.proofs.ServicesLemmas.{share_is}
+use Rattle.frame_carrier.proofs.PlanLemmas.{no_block, room_most, weight, weight_is, weights, weights_taken}
+use Rattle.frame_carrier.proofs.ServicesLemmas.{share_is}
 use Rattle.line21_slots.specs.declared.cadence.Cadence.TheVariants.{EvenFrames, OddFrames}
-use Rattle.lanes.specs.ChannelLane.{channel_slot}
-use Rattle.frame_scheduler.specs.SlotLists.{slot_cues}
+use Rattle.frame_carrier.specs.ChannelLane.{channel_slot}
+use Rattle.frame_carrier.specs.SlotLists.{slot_cues}
 use Rattle.frame_carrier.specs.Carried.{AreRoomy}
 use Rattle.services_shown.proofs.ByteLemmas.{IsByte, block_are_bytes, service_are_bytes}
 use Rattle.frame_carrier.specs.Carrying.{channel_packet_of, packets_before}

@@ -1,12 +1,12 @@
 -- What a receiver shows of the services of a placed list is what the list authors.
 use Rattle.std.proofs.Common.{◌∙◌, ℕ, suc, ◌<◌, ap, arith}
-use Rattle.cue_lists.specs.Listing.{IsFormed, Listing}
-use Rattle.cue_lists.specs.Rules.{IsRuled}
-use Rattle.cue_lists.specs.declared.lane.Lane.TheVariants.{Service}
+use Rattle.line21_shown.specs.Listing.{IsFormed, Listing}
+use Rattle.line21_shown.specs.Rules.{IsRuled}
+use Rattle.line21_shown.specs.Lane.TheVariants.{Service}
 use Rattle.dtvcc_screen.specs.Meaning.{Served, served_after, start}
 use Rattle.dtvcc_screen.specs.Shown.{grids}
 use Rattle.frame_carrier.specs.Carrying.{column_packets}
-use Rattle.frame_scheduler.specs.Planned.{Placement, columns_of, share_in}
+use Rattle.frame_carrier.specs.Planned.{Placement, columns_of, share_in}
 use Rattle.services_shown.specs.PlacedServices.{AreServicesPlaced}
 use Rattle.windows_shown.specs.AuthoredShown.{list_lane}
 use Rattle.windows_shown.proofs.ShownLemmas.{windows_are_shown}

@@ -12,12 +12,12 @@ use Rattle.service_blocks.specs.declared.parts.BlockPart.{BlockPart}
 use Rattle.service_blocks.specs.declared.parts.BlockPart.TheVariants as part
 use Rattle.service_blocks.specs.Channels.{heard_behind, heard_parts}
 use Rattle.service_blocks.proofs.ChannelLemmas.{channel_heard, heard-append}
-use Rattle.words_files.specs.Received.{field_pairs, received_pairs}
-use Rattle.services_files.specs.Events.{event_of, events_behind, events_of, frame_events, service_events}
-use Rattle.services_files.specs.Said.{said_behind}
-use Rattle.services_files.specs.CarriedChannel.{file_triplets}
-use Rattle.services_files.proofs.EventLemmas.{events_more, frame_events-heard}
-use Rattle.frame_scheduler.specs.Columns.{Columns}
+use Rattle.frame_carrier.specs.Received.{field_pairs, received_pairs}
+use Rattle.cc_receiver.specs.Events.{event_of, events_behind, events_of, frame_events, service_events}
+use Rattle.cc_receiver.specs.Said.{said_behind}
+use Rattle.cc_receiver.specs.CarriedChannel.{file_triplets}
+use Rattle.cc_receiver.proofs.EventLemmas.{events_more, frame_events-heard}
+use Rattle.frame_carrier.specs.Columns.{Columns}
 use Rattle.frame_carrier.specs.Carrying.{channel_packet_of, column_packets, frame_packet, packets_before}
 use Rattle.frame_carrier.proofs.CarriedLemmas.{packet_channel_is}
 use Rattle.services_shown.specs.ServicesCarried.{HasBlocks, Sent}

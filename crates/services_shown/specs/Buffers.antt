@@ -4,9 +4,9 @@
 use Rattle.std.specs.Prelude.{ℕ, List}
 use Rattle.cdp_packets.specs.Packets.{Frame}
 use Rattle.dtvcc_screen.specs.Meaning.{start}
-use Rattle.dtvcc_services.specs.Numbers.{IsService}
+use Rattle.cc_receiver.specs.Numbers.{IsService}
 use Rattle.windows_shown.specs.Filling.{AllFill}
-use Rattle.services_files.specs.Events.{service_events}
+use Rattle.cc_receiver.specs.Events.{service_events}
 
 -- at every byte of every service at most 127 bytes are held
 abbrev pub BuffersNeverFill : List Frame → Type 0

@@ -5,16 +5,16 @@
 use Rattle.std.specs.Prelude.{◌≡◌, ℕ, ◌-◌, ◌^◌, ◌<◌, Bool, false, List, [], ◌∷◌, ◌++◌, All, Contains}
 use Rattle.cc_base.specs.declared.rate.Rate.{Rate}
 use Rattle.cc_base.specs.Rate.{delay_frames_of}
-use Rattle.cue_lists.specs.Listing.{Listing}
-use Rattle.cue_lists.specs.declared.cue.Cue.{Cue}
-use Rattle.cue_lists.specs.declared.cue.Kind.TheVariants.{Win}
-use Rattle.cue_lists.specs.declared.cue.WinCue.{WinCue}
-use Rattle.cue_lists.specs.declared.lane.Lane.TheVariants.{Service}
+use Rattle.line21_shown.specs.Listing.{Listing}
+use Rattle.line21_shown.specs.Cue.{Cue}
+use Rattle.line21_shown.specs.Kind.TheVariants.{Win}
+use Rattle.line21_shown.specs.WinCue.{WinCue}
+use Rattle.line21_shown.specs.Lane.TheVariants.{Service}
 use Rattle.dtvcc_codes.specs.Cut.{IsCut}
 use Rattle.dtvcc_codes.specs.declared.commands.Command.{Command}
 use Rattle.dtvcc_codes.specs.declared.commands.Command.TheVariants.{Dly, Dsw}
 use Rattle.dtvcc_screen.specs.Commands.{is_named}
-use Rattle.frame_scheduler.specs.Planned.{Placement, service_bytes}
+use Rattle.frame_carrier.specs.Planned.{Placement, service_bytes}
 
 -- the command is DisplayWindows, and names the window
 abbrev pub shows : ℕ → Command → Bool

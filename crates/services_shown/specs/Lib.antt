@@ -1,3 +1,11 @@
+pub use Rattle.cc_receiver.specs.ReceivedServices
+pub use Rattle.frame_carrier.specs.Carried
+pub use Rattle.frame_carrier.specs.Carrying
+pub use Rattle.line21_shown.specs.Shown
+pub use Rattle.windows_shown.specs.AuthoredShown
+pub use Rattle.windows_shown.specs.Filling
+pub use Rattle.windows_shown.specs.ServiceLanes
+pub use Rattle.windows_shown.specs.Soundness
 pub mod PlacedServices
 pub mod ServicesCarried
 pub mod Told

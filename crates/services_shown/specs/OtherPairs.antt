@@ -4,8 +4,8 @@ use Rattle.std.specs.Prelude.{◌≡◌, ℕ, ◌≤◌, is_some, take}
 use Rattle.cc_base.specs.declared.rate.Rate.{Rate}
 use Rattle.cc_receiver.specs.ReceivedServices.{received_windows}
 use Rattle.frame_carrier.specs.Carrying.{column_packets}
-use Rattle.frame_scheduler.specs.Columns.{Columns}
-use Rattle.services_files.specs.Events.{service_events}
+use Rattle.frame_carrier.specs.Columns.{Columns}
+use Rattle.cc_receiver.specs.Events.{service_events}
 use Rattle.services_shown.specs.Shares.{AreSharesKept}
 use Rattle.services_shown.specs.Sound.{HasFitBlocks}
 

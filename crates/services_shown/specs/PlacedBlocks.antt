@@ -1,9 +1,9 @@
 -- Between crates: the program's answer stands on none of these definitions.
 -- The service blocks of a cue list whose services are placed.
-use Rattle.cue_lists.specs.Listing.{IsFormed, Listing}
-use Rattle.cue_lists.specs.Rules.{IsRuled}
+use Rattle.line21_shown.specs.Listing.{IsFormed, Listing}
+use Rattle.line21_shown.specs.Rules.{IsRuled}
 use Rattle.frame_carrier.specs.Carrying.{column_packets}
-use Rattle.frame_scheduler.specs.Planned.{Placement, columns_of, share_in}
+use Rattle.frame_carrier.specs.Planned.{Placement, columns_of, share_in}
 use Rattle.services_shown.specs.PlacedServices.{AreServicesPlaced}
 use Rattle.services_shown.specs.Shares.{AreSharesKept}
 use Rattle.services_shown.specs.Sound.{HasFitBlocks}

@@ -2,13 +2,13 @@
 -- What is carried of the services of a cue list.
 use Rattle.std.specs.Prelude.{◌≡◌, ℕ, ◌≤◌, List, [], ◌∷◌, ◌++◌, All, length}
 use Rattle.cc_base.specs.declared.rate.Rate.{Rate}
-use Rattle.cue_lists.specs.Listing.{IsFormed, Listing}
-use Rattle.cue_lists.specs.Rules.{IsRuled}
-use Rattle.cue_lists.specs.Shares.{share_room}
+use Rattle.line21_shown.specs.Listing.{IsFormed, Listing}
+use Rattle.line21_shown.specs.Rules.{IsRuled}
+use Rattle.line21_shown.specs.Shares.{share_room}
 use Rattle.service_blocks.specs.Written.{block_written}
-use Rattle.services_files.specs.CarriedChannel.{CarryChannel}
-use Rattle.frame_scheduler.specs.Columns.{Columns}
-use Rattle.frame_scheduler.specs.Planned.{Placement, columns_of}
+use Rattle.cc_receiver.specs.CarriedChannel.{CarryChannel}
+use Rattle.frame_carrier.specs.Columns.{Columns}
+use Rattle.frame_carrier.specs.Planned.{Placement, columns_of}
 use Rattle.services_shown.specs.PlacedServices.{AreServicesPlaced}
 use Rattle.frame_carrier.specs.Carried.{AreByteBlocks, AreCarried, AreRoomy}
 use Rattle.frame_carrier.specs.Carrying.{column_packets}

@@ -4,7 +4,7 @@ use Rattle.std.specs.Prelude.{◌≡◌, ℕ, suc, ◌<◌, ◌≤◌, List, ◌
 use Rattle.cc_base.specs.declared.rate.Rate.{Rate}
 use Rattle.cdp_packets.specs.Packets.{Frame}
 use Rattle.dtvcc_screen.specs.Meaning.{Byte, Tick}
-use Rattle.services_files.specs.Events.{service_events}
+use Rattle.cc_receiver.specs.Events.{service_events}
 
 -- in a frame a service is told a tick of the rate, and behind it at most so many bytes
 pub record IsToldAtMost (rate : Rate) (most : ℕ) (packets : List Frame) (service frame : ℕ) : Type 0 where

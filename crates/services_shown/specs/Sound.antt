@@ -2,14 +2,14 @@
 -- What holds of the frames of a programme, by their columns alone.
 use Rattle.std.specs.Prelude.{ℕ}
 use Rattle.cc_base.specs.declared.rate.Rate.{Rate}
-use Rattle.cue_lists.specs.Shares.{share_room}
+use Rattle.line21_shown.specs.Shares.{share_room}
 use Rattle.frame_carrier.specs.Carried.{AreByteBlocks, AreBytePairs, AreCarried, AreRoomy}
 use Rattle.frame_carrier.specs.Carrying.{column_packets}
-use Rattle.frame_scheduler.specs.Columns.{Columns, first_pairs}
-use Rattle.lanes.specs.DoubledPairs.{IsDoubled}
+use Rattle.frame_carrier.specs.Columns.{Columns, first_pairs}
+use Rattle.frame_carrier.specs.DoubledPairs.{IsDoubled}
 use Rattle.line21_codes.specs.declared.channels.FieldNumber.{FieldNumber}
 use Rattle.services_shown.specs.ServicesCarried.{AreWithin, HasBlocks}
-use Rattle.services_files.specs.CarriedChannel.{CarryChannel}
+use Rattle.cc_receiver.specs.CarriedChannel.{CarryChannel}
 use Rattle.services_shown.specs.Buffers.{BuffersNeverFill}
 
 -- in each field every longest stretch of equal control pairs has an even number of pairs

@@ -7,14 +7,14 @@ use Rattle.cc_base.specs.declared.rate.Rate.{Rate}
 use Rattle.line21_codes.specs.declared.channels.FieldNumber.{FieldNumber}
 use Rattle.cdp_packets.specs.Packets.{Frame}
 use Rattle.cdp_packets.specs.PacketTriplets.{packet_triplets}
-use Rattle.cue_lists.specs.Listing.{IsFormed, Listing, share_of}
-use Rattle.cue_lists.specs.Rules.{IsRuled}
-use Rattle.cue_lists.specs.declared.lane.Lane.TheVariants.{Service}
+use Rattle.line21_shown.specs.Listing.{IsFormed, Listing, share_of}
+use Rattle.line21_shown.specs.Rules.{IsRuled}
+use Rattle.line21_shown.specs.Lane.TheVariants.{Service}
 use Rattle.dtvcc_screen.specs.Meaning.{Byte, Event, Tick}
-use Rattle.words_files.specs.Received.{received_pairs}
-use Rattle.services_files.specs.Events.{service_events}
-use Rattle.frame_scheduler.specs.Columns.{Columns}
-use Rattle.frame_scheduler.specs.Planned.{Placement, captions_in, chunks_in, columns_of, service_bytes}
+use Rattle.frame_carrier.specs.Received.{received_pairs}
+use Rattle.cc_receiver.specs.Events.{service_events}
+use Rattle.frame_carrier.specs.Columns.{Columns}
+use Rattle.frame_carrier.specs.Planned.{Placement, captions_in, chunks_in, columns_of, service_bytes}
 use Rattle.services_shown.specs.PlacedServices.{AreServicesPlaced}
 use Rattle.frame_carrier.specs.Carrying.{column_packets}
 use Rattle.services_shown.specs.ServicesCarried.{HasBlocks, Sent}

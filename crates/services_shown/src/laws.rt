@@ -1,10 +1,10 @@
 //! Laws of the definitions: functions without a body, whose contract is the law.
 
 ghost use Rattle.std.specs.Prelude.{◌<◌, ℕ};
-ghost use Rattle.cue_lists.specs.Listing.{IsFormed, Listing};
-ghost use Rattle.cue_lists.specs.Rules.{IsRuled};
+ghost use Rattle.line21_shown.specs.Listing.{IsFormed, Listing};
+ghost use Rattle.line21_shown.specs.Rules.{IsRuled};
 ghost use Rattle.frame_carrier.specs.Carrying.{column_packets};
-ghost use Rattle.frame_scheduler.specs.Planned.{Placement, columns_of};
+ghost use Rattle.frame_carrier.specs.Planned.{Placement, columns_of};
 ghost use Rattle.services_shown.specs.Buffers.{BuffersNeverFill};
 ghost use Rattle.services_shown.specs.Delays.{AreDelaysSent};
 ghost use Rattle.services_shown.specs.PlacedServices.{AreServicesPlaced};

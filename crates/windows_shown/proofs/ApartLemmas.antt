@@ -7,7 +7,7 @@ use Rattle.std.proofs.lemmas.Bool.Decides.{nat_tests}
 use Rattle.dtvcc_windows.specs.Places.{Cells, no_cells}
 use Rattle.cue_types.specs.Cells.{end_column, first_column, has_lead, have_shared_cell, share_cell}
 use Rattle.cue_types.specs.declared.cue.Run.{Run}
-use Rattle.cue_lists.specs.AuthoredServiceGrid.{cell_at, has_place, written_cells}
+use Rattle.frame_scheduler.specs.AuthoredServiceGrid.{cell_at, has_place, written_cells}
 use Rattle.windows_shown.proofs.RunLemmas.{with_run, with_runs}
 
 -- a run's first column is no further right than its COL

@@ -21,9 +21,9 @@ use Rattle.cue_types.specs.declared.cue.Kind.{Kind}
 use Rattle.cue_types.specs.declared.cue.Kind.TheVariants.{Pop, Paint, Roll, Win}
 use Rattle.cue_types.specs.declared.cue.Run.{Run}
 use Rattle.cue_types.specs.declared.cue.WinCue.{WinCue}
-use Rattle.cue_lists.specs.Rules.{IsRuled}
-use Rattle.cue_lists.specs.Rules.Sentences.{AreInService}
-use Rattle.cue_lists.specs.AuthoredServiceGrid.{authored_window, cue_window, written_cells}
+use Rattle.frame_scheduler.specs.Rules.{IsRuled}
+use Rattle.frame_scheduler.specs.Rules.Sentences.{AreInService}
+use Rattle.frame_scheduler.specs.AuthoredServiceGrid.{authored_window, cue_window, written_cells}
 use Rattle.dtvcc_author.specs.WindowCommands.{are_coloured, attribute_commands, commands_with, definition_of, run_commands, window_commands}
 use Rattle.windows_shown.specs.Loading.{IsLoadedAsAuthored, edited_all, seen_behind}
 use Rattle.windows_shown.proofs.LoadedTextLemmas.{edited_all-append, hidden}

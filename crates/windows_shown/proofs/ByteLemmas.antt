@@ -10,8 +10,8 @@ use Rattle.dtvcc_screen.specs.Screens.{ScreenState}
 use Rattle.dtvcc_author.specs.declared.caption.Caption.{Caption}
 use Rattle.dtvcc_author.specs.FrameEvents.{delayed_at, is_hidden_at, is_shown_at, names, windows_byte}
 use Rattle.dtvcc_author.specs.Latest.{caption_delay}
-use Rattle.lanes.specs.Chunks.{ServiceChunk}
-use Rattle.lanes.specs.ServiceBytes.{loads_at}
+use Rattle.frame_scheduler.specs.Chunks.{ServiceChunk}
+use Rattle.frame_scheduler.specs.ServiceBytes.{loads_at}
 use Rattle.windows_shown.specs.CaptionLanes.{lane_of, plain_events}
 use Rattle.windows_shown.specs.Undelayed.{acted_on, shows_bytes, undelayed}
 use Rattle.windows_shown.proofs.WrittenLemmas.{acted_append, dlw_acts, dlw_plain, dsw_acts}

@@ -20,13 +20,13 @@ use Rattle.dtvcc_author.specs.FrameEvents.{delay_commands, delay_end, delayed_at
 use Rattle.dtvcc_author.specs.Kept.{AreKept, IsUncovered}
 use Rattle.dtvcc_author.specs.Latest.{caption_delay}
 use Rattle.dtvcc_author.proofs.LatestLemmas.{Has, delays_written, kept_sound}
-use Rattle.lanes.specs.Placing.{IsPlaced}
-use Rattle.lanes.specs.Chunks.{ServiceChunk}
-use Rattle.lanes.specs.ServiceBytes.{bytes_in, loads_at}
-use Rattle.lanes.specs.ServiceChunks.{service_chunks}
-use Rattle.lanes.specs.ServiceLane.{IsAllowedInService}
-use Rattle.lanes.specs.ServiceRoom.{caption_lane, frame_room}
-use Rattle.lanes.proofs.DelayLemmas.{all_uncovered, delay_some, delay_test}
+use Rattle.frame_scheduler.specs.Placing.{IsPlaced}
+use Rattle.frame_scheduler.specs.Chunks.{ServiceChunk}
+use Rattle.frame_scheduler.specs.ServiceBytes.{bytes_in, loads_at}
+use Rattle.frame_scheduler.specs.ServiceChunks.{service_chunks}
+use Rattle.frame_scheduler.specs.ServiceLane.{IsAllowedInService}
+use Rattle.frame_scheduler.specs.ServiceRoom.{caption_lane, frame_room}
+use Rattle.frame_scheduler.proofs.DelayLemmas.{all_uncovered, delay_some, delay_test}
 use Rattle.windows_shown.specs.CaptionLanes.{lane_of, plain_events}
 use Rattle.windows_shown.specs.PlacedLanes.{IsPlacedLane, delay_ends, unloaded}
 use Rattle.windows_shown.specs.ServiceLanes.{Lane, lane_frame_bytes, spent}

@@ -15,19 +15,19 @@ use Rattle.dtvcc_codes.specs.declared.windows.Definition.{Definition}
 use Rattle.dtvcc_codes.specs.Writing.{bytes_of_command}
 use Rattle.dtvcc_windows.specs.Showing.{ShownWindow}
 use Rattle.cue_types.specs.Channels.{uses_window}
-use Rattle.cue_lists.specs.AuthoredServiceGrid.{authored_windows, cue_window, is_before, shows_in}
+use Rattle.frame_scheduler.specs.AuthoredServiceGrid.{authored_windows, cue_window, is_before, shows_in}
 use Rattle.dtvcc_author.specs.declared.caption.Caption.{Caption}
 use Rattle.dtvcc_author.specs.Captions.{caption_with, service_captions, window_caption}
 use Rattle.dtvcc_author.specs.CueUnits.{IsWritable}
 use Rattle.dtvcc_author.specs.WindowCommands.{commands_with, definition_of, window_commands}
 use Rattle.dtvcc_author.proofs.WritableLemmas.{commands_writable}
-use Rattle.lanes.specs.Placing.{IsPlaced}
-use Rattle.lanes.specs.Chunks.{ServiceChunk}
-use Rattle.lanes.specs.ServiceChunks.{chunk_of, chunks_with, service_chunks_from}
-use Rattle.lanes.specs.ServiceRoom.{caption_lane}
-use Rattle.lanes.proofs.CaptionsKept.{eqb_turned}
-use Rattle.lanes.proofs.FrontLemmas.{last_is_first}
-use Rattle.lanes.proofs.PlaceLemmas.{frames_rise}
+use Rattle.frame_scheduler.specs.Placing.{IsPlaced}
+use Rattle.frame_scheduler.specs.Chunks.{ServiceChunk}
+use Rattle.frame_scheduler.specs.ServiceChunks.{chunk_of, chunks_with, service_chunks_from}
+use Rattle.frame_scheduler.specs.ServiceRoom.{caption_lane}
+use Rattle.frame_scheduler.proofs.CaptionsKept.{eqb_turned}
+use Rattle.frame_scheduler.proofs.FrontLemmas.{last_is_first}
+use Rattle.frame_scheduler.proofs.PlaceLemmas.{frames_rise}
 use Rattle.windows_shown.specs.Loading.{IsLoad, IsLoadedAsAuthored, seen_behind}
 use Rattle.windows_shown.proofs.LoadingLemmas.{window_load}
 use Rattle.windows_shown.proofs.CueLoadLemmas.{AreTimely, Loads, one_more, shows}

@@ -18,9 +18,9 @@ use Rattle.dtvcc_screen.specs.Laws.{is_text}
 use Rattle.dtvcc_screen.specs.Screens.{ScreenState}
 use Rattle.dtvcc_author.specs.declared.caption.Caption.{Caption}
 use Rattle.dtvcc_author.specs.CueUnits.{IsWritable}
-use Rattle.lanes.specs.Chunks.{ServiceChunk}
-use Rattle.lanes.specs.ServiceBytes.{AreFramesFrom, loads_at}
-use Rattle.lanes.specs.ServiceChunks.{chunk_of}
+use Rattle.frame_scheduler.specs.Chunks.{ServiceChunk}
+use Rattle.frame_scheduler.specs.ServiceBytes.{AreFramesFrom, loads_at}
+use Rattle.frame_scheduler.specs.ServiceChunks.{chunk_of}
 use Rattle.windows_shown.specs.Loading.{edited_all, seen_behind}
 use Rattle.windows_shown.specs.Soundness.{is_plain}
 use Rattle.windows_shown.specs.Undelayed.{acted_on}

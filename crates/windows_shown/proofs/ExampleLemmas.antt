@@ -10,18 +10,18 @@ use Rattle.cue_types.specs.Cues.{IsCueFormed}
 use Rattle.cue_types.specs.Listing.{IsFormed}
 use Rattle.cue_types.specs.Shares.{IsShare}
 use Rattle.cue_types.specs.Windows.{IsWindowRun}
-use Rattle.cue_lists.specs.Rules.{IsRuled, verdicts}
-use Rattle.cue_lists.specs.Rules.Examples.{window}
-use Rattle.cue_lists.proofs.RulesSaid.{faultless_ruled}
+use Rattle.frame_scheduler.specs.Rules.{IsRuled, verdicts}
+use Rattle.frame_scheduler.specs.Rules.Examples.{window}
+use Rattle.frame_scheduler.proofs.RulesSaid.{faultless_ruled}
 use Rattle.dtvcc_codes.specs.CharacterSpellings.{dtvcc_spelling}
 use Rattle.dtvcc_codes.specs.Writing.{bytes_of_command}
 use Rattle.dtvcc_author.specs.FrameEvents.{delay_end}
 use Rattle.dtvcc_author.specs.declared.caption.Caption.{Caption}
 use Rattle.frame_scheduler.specs.Planned.{captions_in, chunks_in, share_in}
-use Rattle.lanes.specs.Placing.{IsPlaced}
-use Rattle.lanes.specs.Chunks.{ServiceChunk}
-use Rattle.lanes.specs.ServiceLane.{AreUpTo, IsAllowedInService, bytes_between, chunk_size, is_between, most_in_delay, used}
-use Rattle.lanes.specs.ServiceRoom.{caption_lane, frame_room}
+use Rattle.frame_scheduler.specs.Placing.{IsPlaced}
+use Rattle.frame_scheduler.specs.Chunks.{ServiceChunk}
+use Rattle.frame_scheduler.specs.ServiceLane.{AreUpTo, IsAllowedInService, bytes_between, chunk_size, is_between, most_in_delay, used}
+use Rattle.frame_scheduler.specs.ServiceRoom.{caption_lane, frame_room}
 use Rattle.windows_shown.specs.AuthoredShown.{IsServicePlaced}
 use Rattle.windows_shown.specs.Examples.{delayed_frames, delayed_list}
 

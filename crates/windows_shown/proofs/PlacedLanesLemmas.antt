@@ -5,10 +5,10 @@ use Rattle.std.specs.List.{zip}
 use Rattle.std.proofs.lemmas.Bool.Decides.{nat_tests}
 use Rattle.std.proofs.lemmas.List.Elements.{All-head, All-tail}
 use Rattle.std.proofs.lemmas.List.Sums.{sum_by-cons}
-use Rattle.lanes.specs.Chunks.{ServiceChunk}
-use Rattle.lanes.specs.ServiceBytes.{loads_at}
-use Rattle.lanes.specs.ServiceLane.{bytes_between, chunk_size, is_between, used}
-use Rattle.lanes.proofs.ServiceLaneLemmas.{placed_within}
+use Rattle.frame_scheduler.specs.Chunks.{ServiceChunk}
+use Rattle.frame_scheduler.specs.ServiceBytes.{loads_at}
+use Rattle.frame_scheduler.specs.ServiceLane.{bytes_between, chunk_size, is_between, used}
+use Rattle.frame_scheduler.proofs.ServiceLaneLemmas.{placed_within}
 use Rattle.windows_shown.specs.PlacedLanes.{IsPlacedLane, delay_ends, loaded}
 use Rattle.dtvcc_author.specs.declared.frame_events.Delay.{Delay}
 use Rattle.windows_shown.specs.ServiceLanes.{Lane, spent}

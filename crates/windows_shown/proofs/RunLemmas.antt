@@ -15,7 +15,7 @@ use Rattle.cue_types.specs.declared.cue.Pen.TheVariants.{Line21, Dtv}
 use Rattle.cue_types.specs.declared.cue.Run.{Run}
 use Rattle.cue_types.specs.declared.cue.WinCue.{WinCue}
 use Rattle.cue_types.specs.Windows.{IsWindowRun}
-use Rattle.cue_lists.specs.AuthoredServiceGrid.{cell_at, has_place, written_as}
+use Rattle.frame_scheduler.specs.AuthoredServiceGrid.{cell_at, has_place, written_as}
 use Rattle.dtvcc_author.specs.WindowCommands.{character_commands, color_commands, definition_of, run_commands, run_pen}
 use Rattle.windows_shown.specs.Loading.{edited_all}
 use Rattle.windows_shown.proofs.LoadedTextLemmas.{edited_all-append, hidden, text_on}

@@ -6,12 +6,12 @@ use Rattle.std.specs.Prelude.{option_map}
 use Rattle.std.specs.List.{zip}
 use Rattle.cc_base.specs.declared.rate.Rate.{Rate}
 use Rattle.cue_types.specs.Listing.{IsFormed, Listing}
-use Rattle.cue_lists.specs.Rules.{IsRuled}
+use Rattle.frame_scheduler.specs.Rules.{IsRuled}
 use Rattle.dtvcc_windows.specs.Showing.{shown}
 use Rattle.dtvcc_screen.specs.Meaning.{Served}
 use Rattle.dtvcc_screen.specs.Screens.{ScreenState}
 use Rattle.dtvcc_screen.specs.Shown.{grids}
-use Rattle.cue_lists.specs.AuthoredServiceGrid.{authored_windows}
+use Rattle.frame_scheduler.specs.AuthoredServiceGrid.{authored_windows}
 use Rattle.dtvcc_author.specs.declared.caption.Caption.{Caption}
 use Rattle.dtvcc_author.specs.declared.frame_events.Delay.{Delay}
 use Rattle.dtvcc_author.specs.Captions.{service_captions}
@@ -19,11 +19,11 @@ use Rattle.dtvcc_author.specs.FrameEvents.{delayed_at}
 use Rattle.dtvcc_author.specs.Kept.{AreKept}
 use Rattle.dtvcc_author.specs.Latest.{caption_delay}
 use Rattle.dtvcc_author.proofs.LatestLemmas.{Has}
-use Rattle.lanes.specs.Placing.{IsPlaced}
-use Rattle.lanes.specs.Chunks.{ServiceChunk}
-use Rattle.lanes.specs.ServiceChunks.{service_chunks}
-use Rattle.lanes.specs.ServiceRoom.{caption_lane}
-use Rattle.lanes.proofs.CaptionsKept.{captions_kept}
+use Rattle.frame_scheduler.specs.Placing.{IsPlaced}
+use Rattle.frame_scheduler.specs.Chunks.{ServiceChunk}
+use Rattle.frame_scheduler.specs.ServiceChunks.{service_chunks}
+use Rattle.frame_scheduler.specs.ServiceRoom.{caption_lane}
+use Rattle.frame_scheduler.proofs.CaptionsKept.{captions_kept}
 use Rattle.windows_shown.proofs.AuthoredLemmas.{list_as_authored}
 use Rattle.windows_shown.specs.CaptionLanes.{lane_of, plain_events}
 use Rattle.windows_shown.specs.ServiceLanes.{IsInDelay, IsOutside, Lane, served}

@@ -22,8 +22,8 @@ use Rattle.dtvcc_author.specs.Captions.{caption_of}
 use Rattle.dtvcc_author.specs.CueUnits.{IsWritable, window_cue_units}
 use Rattle.dtvcc_author.specs.WindowCommands.{are_coloured, attribute_commands, character_commands, color_commands, commands_of, commands_with, run_commands, window_commands}
 use Rattle.dtvcc_author.proofs.WritableLemmas.{commands_writable}
-use Rattle.lanes.specs.Chunks.{ServiceChunk}
-use Rattle.lanes.specs.ServiceChunks.{chunk_of, chunks_with, service_chunks, service_chunks_from}
+use Rattle.frame_scheduler.specs.Chunks.{ServiceChunk}
+use Rattle.frame_scheduler.specs.ServiceChunks.{chunk_of, chunks_with, service_chunks, service_chunks_from}
 use Rattle.windows_shown.specs.Soundness.{ArePlain, is_plain}
 use Rattle.windows_shown.proofs.WrittenLemmas.{written_plain}
 

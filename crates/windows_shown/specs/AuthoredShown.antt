@@ -3,9 +3,9 @@
 use Rattle.std.specs.Prelude.{◌≡◌, ℕ, suc, ◌<◌, List, []}
 use Rattle.std.specs.List.{zip}
 use Rattle.cue_types.specs.Listing.{Listing}
-use Rattle.cue_lists.specs.AuthoredServiceGrid.{authored_windows}
+use Rattle.frame_scheduler.specs.AuthoredServiceGrid.{authored_windows}
 use Rattle.dtvcc_screen.specs.Shown.{grids}
-use Rattle.lanes.specs.Placing.{IsPlaced}
+use Rattle.frame_scheduler.specs.Placing.{IsPlaced}
 use Rattle.frame_scheduler.specs.Planned.{captions_in, chunks_in, service_lane_of}
 use Rattle.windows_shown.specs.CaptionLanes.{lane_of}
 use Rattle.windows_shown.specs.ServiceLanes.{Lane, served}

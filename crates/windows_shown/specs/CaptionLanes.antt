@@ -9,8 +9,8 @@ use Rattle.dtvcc_codes.specs.Writing.{bytes_of_command}
 use Rattle.dtvcc_author.specs.declared.caption.Caption.{Caption}
 use Rattle.dtvcc_author.specs.FrameEvents.{delayed_at, is_hidden_at, is_shown_at, windows_command}
 use Rattle.dtvcc_author.specs.Latest.{caption_delay}
-use Rattle.lanes.specs.Chunks.{ServiceChunk}
-use Rattle.lanes.specs.ServiceBytes.{loads_at}
+use Rattle.frame_scheduler.specs.Chunks.{ServiceChunk}
+use Rattle.frame_scheduler.specs.ServiceBytes.{loads_at}
 use Rattle.windows_shown.specs.ServiceLanes.{Lane}
 
 -- the bytes that hide windows and show them in a frame, without those of a delay

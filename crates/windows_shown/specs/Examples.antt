@@ -3,7 +3,7 @@
 use Rattle.std.specs.Prelude.{ℕ, suc, Bool, List, [], ◌∷◌, Option, is_some}
 use Rattle.std.specs.Option.{option_and_then}
 use Rattle.cue_types.specs.Listing.{Listing}
-use Rattle.cue_lists.specs.Rules.Examples.{window, window_list}
+use Rattle.frame_scheduler.specs.Rules.Examples.{window, window_list}
 use Rattle.dtvcc_windows.specs.Showing.{ShownWindow}
 use Rattle.dtvcc_windows.specs.declared.cells.DCell.{DCell}
 use Rattle.dtvcc_screen.specs.Shown.{grids}

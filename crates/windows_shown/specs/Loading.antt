@@ -11,7 +11,7 @@ use Rattle.dtvcc_windows.specs.Windows.{WindowState, with_visibility}
 use Rattle.dtvcc_screen.specs.Commands.{edited_by}
 use Rattle.dtvcc_screen.specs.Laws.{is_text}
 use Rattle.cue_types.specs.declared.cue.Cue.{Cue}
-use Rattle.cue_lists.specs.AuthoredServiceGrid.{cue_window}
+use Rattle.frame_scheduler.specs.AuthoredServiceGrid.{cue_window}
 use Rattle.dtvcc_author.specs.WindowCommands.{commands_of}
 
 -- what commands make of the current window, one behind another

@@ -2,7 +2,7 @@
 -- The windows of a list of literals, as the commands of its cues make them.
 use Rattle.std.specs.Prelude.{ℕ, slice_get, Option}
 use Rattle.std.specs.Option.{option_and_then}
-use Rattle.cue_lists.specs.WindowExamples.{two_windows}
+use Rattle.frame_scheduler.specs.WindowExamples.{two_windows}
 use Rattle.dtvcc_windows.specs.Showing.{ShownWindow}
 use Rattle.dtvcc_author.specs.WindowCommands.{commands_of}
 use Rattle.windows_shown.specs.Loading.{seen_behind}

@@ -1,10 +1,10 @@
 -- Between crates: the program's answer stands on none of these definitions.
 -- The lane of a service whose units are placed: each frame is loaded with the units that stand in it.
 use Rattle.std.specs.Prelude.{ℕ, List, [], All, Option, option_map}
-use Rattle.lanes.specs.Chunks.{ServiceChunk}
-use Rattle.lanes.specs.Placing.{IsPlaced}
-use Rattle.lanes.specs.ServiceBytes.{loads_at}
-use Rattle.lanes.specs.ServiceLane.{IsAllowedInService}
+use Rattle.frame_scheduler.specs.Chunks.{ServiceChunk}
+use Rattle.frame_scheduler.specs.Placing.{IsPlaced}
+use Rattle.frame_scheduler.specs.ServiceBytes.{loads_at}
+use Rattle.frame_scheduler.specs.ServiceLane.{IsAllowedInService}
 use Rattle.dtvcc_author.specs.declared.frame_events.Delay.{Delay}
 use Rattle.windows_shown.specs.ServiceLanes.{Lane}
 use Rattle.windows_shown.specs.Soundness.{ArePlain, IsSoundLane}

@@ -1,8 +1,8 @@
 //! Laws of the definitions: functions without a body, whose contract is the law.
 
 ghost use Rattle.std.specs.Prelude.{◌≡◌, ℕ, false, true, List, [], ◌∷◌, None, map};
-ghost use Rattle.cue_lists.specs.WindowExamples.{cell, example_white};
-ghost use Rattle.cue_lists.specs.Rules.{IsRuled};
+ghost use Rattle.frame_scheduler.specs.WindowExamples.{cell, example_white};
+ghost use Rattle.frame_scheduler.specs.Rules.{IsRuled};
 ghost use Rattle.cue_types.specs.Listing.{IsFormed, Listing};
 ghost use Rattle.cue_types.specs.declared.lane.Lane.TheVariants.{Service};
 ghost use Rattle.windows_shown.specs.ServiceLanes.{lane_frame_bytes};

@@ -25,7 +25,7 @@ use Rattle.line21_codes.specs.declared.channels.Chan.TheVariants.{Cc1, Cc2, Cc3,
 use Rattle.line21_screen.specs.Fields.{FieldState, channel}
 use Rattle.line21_screen.specs.Grid.{Grid, empty_grid}
 use Rattle.line21_screen.specs.Meaning.{after}
-use Rattle.services_files.specs.CaptionChannel.{caption_channel}
+use Rattle.cc_receiver.specs.CaptionChannel.{caption_channel}
 use Rattle.text_output.proofs.PageLemmas.{begun_written}
 use Rattle.text_output.specs.Gathered.{GathersText, IsGathered, answer_of, held_of}
 use Rattle.text_output.specs.Pages.{Page, Writes}

@@ -1,3 +1,4 @@
+pub use Rattle.words_reading.proofs.PieceLemmas
 mod ConcealingLemmas
 mod PacketLinesLemmas
 pub mod PrintingLemmas

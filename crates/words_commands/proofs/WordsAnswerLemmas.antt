@@ -13,7 +13,7 @@ use Rattle.grid_print.specs.Screens.{LookAlike, received_screens}
 use Rattle.grid_print.specs.Shown.{last_shown}
 use Rattle.grid_print.specs.declared.shown.Shown.{Shown}
 use Rattle.line21_screen.specs.Grid.{empty_grid}
-use Rattle.services_files.specs.CaptionChannel.{caption_channel}
+use Rattle.cc_receiver.specs.CaptionChannel.{caption_channel}
 use Rattle.words_files.specs.FramesOf.{AreFramesOf}
 use Rattle.words_reading.proofs.AnswersLemmas.{stop_answered_as}
 use Rattle.words_reading.proofs.EarlyLemmas.{early_answered}

@@ -1,7 +1,7 @@
 ghost use Rattle.std.specs.Prelude.{◌≡◌, ◌<◌, ◌++◌, ◌∷◌, [], ℕ, List, Option};
 ghost use Rattle.cc_conceal.specs.Concealers.{HasConcealed, concealed_frames};
 ghost use Rattle.cdp_packets.specs.Packets.{Frame};
-ghost use Rattle.services_files.specs.CaptionChannel.{caption_channel};
+ghost use Rattle.cc_receiver.specs.CaptionChannel.{caption_channel};
 ghost use Rattle.text_output.specs.Gathered.{IsGathered, held_of};
 ghost use Rattle.text_output.specs.Pages.{Adds};
 ghost use Rattle.words_files.specs.FramesOf.{AreFramesOf};

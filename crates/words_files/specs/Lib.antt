@@ -1,3 +1,5 @@
+pub use Rattle.anc_words.specs.Ending
+pub use Rattle.anc_words.specs.Reading
 pub mod Frames
 pub mod CarriedWords
 pub mod Received

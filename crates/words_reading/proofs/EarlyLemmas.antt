@@ -10,7 +10,7 @@ use Rattle.command_base.specs.Ends.{Ends}
 use Rattle.command_base.specs.declared.status.Place.TheVariants.{Byte}
 use Rattle.command_base.specs.declared.status.Status.{Status}
 use Rattle.command_base.specs.declared.status.Status.TheVariants as status
-use Rattle.services_files.specs.CaptionChannel.{caption_channel}
+use Rattle.cc_receiver.specs.CaptionChannel.{caption_channel}
 use Rattle.words_files.specs.Offences.{IsFileUnder, IsMalformed}
 use Rattle.words_reading.proofs.KnownLemmas.{long_offends, long_passes, malformed_no_file, never_whole, one_malformed, read_unmalformed, refused_so, within_passes}
 use Rattle.words_reading.specs.Answers.{FileAnswer, IsPastLimit, StopsEarlyAs, StopsOwn}

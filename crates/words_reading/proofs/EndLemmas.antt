@@ -3,7 +3,7 @@ use Rattle.std.proofs.Common.{refl, ℕ, List, Err, IfErr, IsOk, Ok, Result}
 use Rattle.cc_base.specs.declared.refusal.Refusal.{Refusal}
 use Rattle.cdp_packets.specs.Packets.{Frame}
 use Rattle.words_files.specs.Offences.{IsFileUnder, IsMalformed, IsUnoffending}
-use Rattle.services_files.specs.CaptionChannel.{caption_channel}
+use Rattle.cc_receiver.specs.CaptionChannel.{caption_channel}
 use Rattle.words_reading.proofs.PieceLemmas.{cut_short}
 use Rattle.words_reading.specs.Judging.{EndsAt}
 

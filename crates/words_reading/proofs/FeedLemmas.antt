@@ -20,7 +20,7 @@ use Rattle.cc_receiver.specs.declared.receiver.Receiver.{Receiver}
 use Rattle.cc_receiver.proofs.FedFrames.{counted_nothing, counts_one, moves_by, nothing_is_file, nothing_offends}
 use Rattle.cdp_packets.specs.Packets.{Frame}
 use Rattle.words_files.specs.Offences.{IsFileUnder, IsUnoffending}
-use Rattle.services_files.specs.CaptionChannel.{caption_channel}
+use Rattle.cc_receiver.specs.CaptionChannel.{caption_channel}
 use Rattle.words_reading.specs.OpenPackets.{EndsCaption, EndsForeign, HasRead, IsEndedAs, NoPacketEnds, ReadsFront, open_bytes}
 use Rattle.words_reading.specs.declared.packets.Packets.{Packets}
 use Rattle.words_reading.proofs.PacketEndLemmas.{brings, closed_file, file_under, no_more, one_packet}

@@ -10,7 +10,7 @@ use Rattle.cc_receiver.proofs.FedFrames.{IsNextFrame, counted_nothing, counts_no
 use Rattle.cdp_packets.specs.Packets.{Frame}
 use Rattle.text_output.specs.Gathered.{IsGathered}
 use Rattle.words_files.proofs.FramesOfLemmas.{file_frames}
-use Rattle.services_files.specs.CaptionChannel.{caption_channel}
+use Rattle.cc_receiver.specs.CaptionChannel.{caption_channel}
 use Rattle.words_reading.proofs.PieceLemmas.{front_size, front_spelled}
 use Rattle.words_reading.specs.FrameTexts.{FramesHalt, FramesSay, MakesFrame}
 use Rattle.words_reading.specs.FramesRead.{HasJudgedFrames, HasReadFrames, receiver_of}

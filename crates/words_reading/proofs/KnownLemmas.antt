@@ -11,8 +11,8 @@ use Rattle.cc_base.specs.declared.streams.Put.TheVariants as put
 use Rattle.cdp_packets.specs.Packets.{Frame}
 use Rattle.command_base.specs.Counts.{IsReadOf}
 use Rattle.command_base.specs.Ends.{Ends}
-use Rattle.services_files.proofs.ChannelFiles.{offence_is_once}
-use Rattle.services_files.specs.CaptionChannel.{caption_channel}
+use Rattle.cc_receiver.proofs.ChannelFiles.{offence_is_once}
+use Rattle.cc_receiver.specs.CaptionChannel.{caption_channel}
 use Rattle.words_files.proofs.EndingLemmas.{cut_short_has_no_offence, file_has_no_offence, offence_stays}
 use Rattle.words_files.proofs.FramesOfLemmas.{file_frames, frames_grow, frames_of_once}
 use Rattle.words_files.proofs.WordLemmas.{front_of}

@@ -14,8 +14,8 @@ use Rattle.words_files.specs.Frames.{CarryFrames}
 use Rattle.words_files.specs.Frames.CarryFrames.{none, caption, foreign}
 use Rattle.words_files.specs.FramesOf.{AreFramesOf}
 use Rattle.words_files.specs.Offences.{IsFileUnder, IsUnoffending}
-use Rattle.services_files.specs.CaptionChannel.{caption_channel}
-use Rattle.services_files.proofs.ChannelFiles.{caught_channel, unoffending_unrefused}
+use Rattle.cc_receiver.specs.CaptionChannel.{caption_channel}
+use Rattle.cc_receiver.proofs.ChannelFiles.{caught_channel, unoffending_unrefused}
 use Rattle.words_files.proofs.FramesOfLemmas.{carry_front, empty_file, file_front, some_packet}
 use Rattle.words_files.proofs.WordLemmas.{front_of}
 use Rattle.words_reading.specs.OpenPackets.{NoPacketEnds}

@@ -8,7 +8,7 @@ use Rattle.cc_receiver.specs.declared.receiver.Fed.{Fed}
 use Rattle.cc_receiver.specs.declared.receiver.Receiver.{Receiver}
 use Rattle.cdp_packets.specs.Packets.{Frame}
 use Rattle.words_files.specs.Offences.{IsFileUnder, IsUnoffending}
-use Rattle.services_files.specs.CaptionChannel.{caption_channel}
+use Rattle.cc_receiver.specs.CaptionChannel.{caption_channel}
 use Rattle.words_reading.specs.Causes.{words_limit}
 use Rattle.words_reading.specs.OpenPackets.{EndsCaption, EndsForeign, HasRead, HasReadPackets, IsEndedAs, MayFollow, NoPacketEnds, ReadsFront, open_bytes}
 use Rattle.words_reading.specs.declared.packets.Packets.{Packets}

@@ -6,9 +6,9 @@ use Rattle.std.proofs.lemmas.List.{length-drop, length-take-le, take-append-drop
 use Rattle.std.specs.Io.KnownBytes.{Consumes, IsAtEnd}
 use Rattle.cc_base.specs.declared.refusal.Refusal.{Refusal}
 use Rattle.cc_receiver.proofs.FedFrames.{no_item}
-use Rattle.services_files.specs.Services.{services_say}
-use Rattle.services_files.specs.CaptionChannel.{caption_channel}
-use Rattle.services_files.proofs.ChannelFiles.{offence_is_refused, unoffending_unrefused}
+use Rattle.cc_receiver.specs.Services.{services_say}
+use Rattle.cc_receiver.specs.CaptionChannel.{caption_channel}
+use Rattle.cc_receiver.proofs.ChannelFiles.{offence_is_refused, unoffending_unrefused}
 use Rattle.words_files.specs.Catching.{refusal_of}
 use Rattle.words_files.specs.Offences.{IsCutShort, IsMalformed, IsUnoffending}
 use Rattle.words_files.proofs.OffenceLemmas.{some_or_none}

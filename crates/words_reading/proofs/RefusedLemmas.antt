@@ -8,7 +8,7 @@ use Rattle.cc_base.specs.declared.refusal.Refusal.{Refusal}
 use Rattle.cdp_packets.specs.Packets.{Frame}
 use Rattle.words_files.specs.FramesOf.{AreFramesOf}
 use Rattle.words_files.specs.Offences.{AreWholeWords, Begins, FirstOffendingWord, IsFileUnder}
-use Rattle.services_files.specs.CaptionChannel.{caption_channel}
+use Rattle.cc_receiver.specs.CaptionChannel.{caption_channel}
 use Rattle.words_files.proofs.OffenceLemmas.{past_offence}
 use Rattle.words_files.proofs.WordLemmas.{AreWords-whole, front_of}
 use Rattle.words_reading.specs.OpenPackets.{NoPacketEnds, OffendsBehind, RefusesWord}

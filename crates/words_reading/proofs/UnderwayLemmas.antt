@@ -10,7 +10,7 @@ use Rattle.command_base.specs.Ends.{ends}
 use Rattle.words_reading.proofs.PieceLemmas.{IsPiece, all_taken, front_size, nothing_taken, whole_piece, with_piece}
 use Rattle.words_reading.proofs.WayLemmas.{all_put}
 use Rattle.words_files.specs.Offences.{IsUnoffending}
-use Rattle.services_files.specs.CaptionChannel.{caption_channel}
+use Rattle.cc_receiver.specs.CaptionChannel.{caption_channel}
 use Rattle.words_reading.specs.Judging.{EndsAt, HasGathered, HasStopped, IsReady, SaysFront, StopsBy}
 use Rattle.words_reading.specs.Causes.{Cause, HasNoOffence, IsAnyhow, IsRefusedWith, IsWholeFile, words_limit}
 use Rattle.words_reading.specs.Reading.{ReadsWords, Stops, StopsEarly}

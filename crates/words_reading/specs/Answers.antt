@@ -10,7 +10,7 @@ use Rattle.command_base.specs.declared.status.Place.TheVariants.{Byte}
 use Rattle.command_base.specs.declared.status.Status.{Status}
 use Rattle.command_base.specs.declared.status.Status.TheVariants as status
 use Rattle.words_files.specs.Offences.{FirstOffendingWord, IsUnoffending}
-use Rattle.services_files.specs.CaptionChannel.{caption_channel}
+use Rattle.cc_receiver.specs.CaptionChannel.{caption_channel}
 use Rattle.words_reading.specs.Causes.{HasNoOffence, IsAnyhow, IsRefusedWith, IsWholeFile, PassesLimit, words_limit}
 use Rattle.words_reading.specs.Judging.{SaysFront}
 use Rattle.words_reading.specs.Reading.{Stops}

@@ -7,7 +7,7 @@ use Rattle.cc_base.specs.declared.streams.Put.TheVariants as put
 use Rattle.cdp_packets.specs.Packets.{Frame}
 use Rattle.text_output.specs.Gathered.{IsGathered}
 use Rattle.words_files.specs.Offences.{FirstOffendingWord, IsCutShort, IsFileUnder}
-use Rattle.services_files.specs.CaptionChannel.{caption_channel}
+use Rattle.cc_receiver.specs.CaptionChannel.{caption_channel}
 use Rattle.words_reading.specs.Causes.{words_limit}
 use Rattle.words_reading.specs.declared.judge.Stop.{Stop}
 use Rattle.words_reading.specs.declared.judge.Stop.TheVariants as stop

@@ -10,7 +10,7 @@ use Rattle.cc_receiver.specs.declared.receiver.Ended.TheVariants as ended
 use Rattle.cc_receiver.specs.declared.receiver.Fed.{Fed}
 use Rattle.cdp_packets.specs.Packets.{Frame, IsCdp}
 use Rattle.words_files.specs.Offences.{FirstOffendingWord, IsFileUnder, IsUnoffending}
-use Rattle.services_files.specs.CaptionChannel.{caption_channel}
+use Rattle.cc_receiver.specs.CaptionChannel.{caption_channel}
 use Rattle.words_reading.specs.declared.packets.Packets.{Packets}
 
 -- no packet ends among the bytes behind a file

@@ -1,3 +1,4 @@
+pub use Rattle.xds_frames.proofs.XdsLemmas
 pub mod SoundLemmas
 pub mod MadeLemmas
 pub mod NoPacketsLemmas

@@ -7,7 +7,7 @@ use Rattle.std.proofs.Math.Path.{fun_ext}
 use Rattle.cue_lists.specs.Listing.{Listing}
 use Rattle.cue_lists.specs.declared.lane.Lane.TheVariants.{Channel}
 use Rattle.frame_carrier.specs.Carrying.{column_bytes}
-use Rattle.lanes.specs.ChannelLane.{channel_slot}
+use Rattle.frame_scheduler.specs.ChannelLane.{channel_slot}
 use Rattle.frame_scheduler.specs.Columns.{Columns}
 use Rattle.frame_scheduler.specs.Planned.{Placement, columns_of}
 use Rattle.frame_scheduler.specs.SlotLists.{slot_cues}

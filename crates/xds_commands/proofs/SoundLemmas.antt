@@ -7,14 +7,14 @@ use Rattle.frame_scheduler.proofs.ListDoublingLemmas.{columns_doubled}
 use Rattle.frame_scheduler.specs.Planned.{Placement, columns_of, share_in}
 use Rattle.cue_lists.specs.declared.lane.Lane.TheVariants.{Service}
 use Rattle.line21_codes.specs.declared.channels.FieldNumber.TheVariants.{Two}
-use Rattle.services_shown.proofs.ToldLemmas.{take_packets}
-use Rattle.services_shown.specs.PlacedServices.{AreServicesPlaced}
-use Rattle.services_shown.proofs.DelayLemmas.{delays_sent}
-use Rattle.services_shown.proofs.SeenLemmas.{authored_windows_seen}
-use Rattle.services_shown.proofs.PlacedBlocksLemmas.{fit_blocks, shares_kept}
-use Rattle.services_shown.proofs.SoundSeenLemmas.{columns_seen}
-use Rattle.services_shown.proofs.SoundLemmas.{fit_sound}
-use Rattle.services_shown.specs.Sound.{IsSoundFrames}
+use Rattle.cue_list_commands.proofs.ToldLemmas.{take_packets}
+use Rattle.cue_list_commands.specs.PlacedServices.{AreServicesPlaced}
+use Rattle.cue_list_commands.proofs.DelayLemmas.{delays_sent}
+use Rattle.cue_list_commands.proofs.SeenLemmas.{authored_windows_seen}
+use Rattle.cue_list_commands.proofs.PlacedBlocksLemmas.{fit_blocks, shares_kept}
+use Rattle.cue_list_commands.proofs.SoundSeenLemmas.{columns_seen}
+use Rattle.cue_list_commands.proofs.SoundLemmas.{fit_sound}
+use Rattle.cue_list_commands.specs.Sound.{IsSoundFrames}
 use Rattle.words_files.specs.Received.{received_pairs}
 use Rattle.xds_frames.proofs.XdsLemmas.{packets_are_read, packets_change_nothing, packets_leave_sound}
 use Rattle.xds_frames.specs.XdsFrames.{AreSendable, HasXdsRoom, IsSoundBeside, ShowTheSame, xds_columns}

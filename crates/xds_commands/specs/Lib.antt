@@ -1,3 +1,4 @@
+pub use Rattle.xds_frames.specs.XdsFrames
 pub mod PacketLists
 pub mod PlacedPackets
 pub mod XdsAnswer

@@ -1,7 +1,7 @@
 -- Believed in part: the program's answer stands on some of these definitions.
 -- What is put of a cue list with packets, and what holds of it.
 use Rattle.std.specs.Prelude.{◌≡◌, ℕ, suc, ◌<◌, List, [], take}
-use Rattle.cc_receiver.specs.ReceivedServices.{received_windows}
+use Rattle.cue_list_commands.specs.ReceivedServices.{received_windows}
 use Rattle.cdp_packets.specs.Packets.{Frame}
 use Rattle.cue_list_commands.specs.Output.{build_output, built_packets, list_grids, list_told, list_windows}
 use Rattle.cue_lists.specs.Listing.{Listing}
@@ -9,10 +9,10 @@ use Rattle.frame_scheduler.specs.Planned.{Placement, share_in}
 use Rattle.line21_codes.specs.declared.channels.Chan.{Chan}
 use Rattle.line21_codes.specs.declared.channels.FieldNumber.TheVariants.{Two}
 use Rattle.frame_carrier.specs.Framing.{Framing, packets_of, words_of}
-use Rattle.services_shown.specs.Delays.{AreDelaysSent}
-use Rattle.services_shown.specs.Shares.{AreSharesKept}
-use Rattle.services_shown.specs.Showing.{ShowsFrames}
-use Rattle.services_shown.specs.Sound.{IsSoundFrames}
+use Rattle.cue_list_commands.specs.Delays.{AreDelaysSent}
+use Rattle.cue_list_commands.specs.Shares.{AreSharesKept}
+use Rattle.cue_list_commands.specs.Showing.{ShowsFrames}
+use Rattle.cue_list_commands.specs.Sound.{IsSoundFrames}
 use Rattle.words_files.specs.Received.{received_grids, received_pairs}
 use Rattle.xds_frames.specs.XdsFrames.{xds_columns}
 use Rattle.xds_commands.specs.PlacedPackets.{PlacedPackets}

@@ -10,8 +10,8 @@ use Rattle.line21_codes.specs.declared.codes.Code.{Code}
 use Rattle.line21_codes.specs.declared.codes.Code.TheVariants.{Null, Text, Xds, Control}
 use Rattle.line21_codes.specs.declared.pairs.Pair.{Pair}
 use Rattle.line21_author.specs.declared.unit.Unit.{Unit}
-use Rattle.line21_shown.proofs.ReadingLemmas.{null_code}
-use Rattle.line21_shown.specs.Reading.{IsMarked}
+use Rattle.dual_fields.proofs.ReadingLemmas.{null_code}
+use Rattle.dual_fields.specs.Reading.{IsMarked}
 use Rattle.lanes.specs.Timeline.{Timeline, repeat_at, repeat_of, slot}
 use Rattle.dual_fields.specs.Sharing.{IsFor, is_text}
 use Rattle.xds_frames.specs.Beside.{CaptionsAreBeside, caption_codes}

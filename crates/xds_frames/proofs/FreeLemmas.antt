@@ -30,9 +30,9 @@ use Rattle.lanes.proofs.DoublingLemmas.{at_unit, free_none, over_cases, unit_beg
 use Rattle.lanes.proofs.EventLemmas.{some_slot}
 use Rattle.lanes.proofs.FieldLaneLemmas.{end_push}
 use Rattle.frame_scheduler.proofs.SlotLemmas.{slot_cues_formed, slot_sequence}
-use Rattle.line21_shown.proofs.CaptionedLemmas.{channel_captioned}
-use Rattle.line21_shown.proofs.ReadingLemmas.{null_code}
-use Rattle.line21_shown.specs.Reading.{IsMarked}
+use Rattle.dual_fields.proofs.CaptionedLemmas.{channel_captioned}
+use Rattle.dual_fields.proofs.ReadingLemmas.{null_code}
+use Rattle.dual_fields.specs.Reading.{IsMarked}
 use Rattle.lanes.specs.Placing.{IsPlaced}
 use Rattle.dual_fields.specs.declared.part.Part.{Part}
 use Rattle.dual_fields.specs.ChannelParts.{channel_parts, later_part, parts_from, parts_of}

@@ -13,14 +13,14 @@ use Rattle.line21_codes.specs.declared.channels.DataChannel.{DataChannel}
 use Rattle.line21_screen.specs.Channels.{new_channel}
 use Rattle.line21_screen.specs.Fields.{FieldState, after_code, channel}
 use Rattle.lanes.specs.Timeline.{Timeline, over, repeat_of}
-use Rattle.line21_shown.specs.Reading.{acts, does_unit}
+use Rattle.dual_fields.specs.Reading.{acts, does_unit}
 use Rattle.xds_frames.specs.Outside.{AreOutside, DataChangeNothing, IsData, begins}
 use Rattle.dual_fields.specs.Own.{own_of, reaches}
-use Rattle.line21_shown.specs.Reading.{after_unit, field_acts}
+use Rattle.dual_fields.specs.Reading.{after_unit, field_acts}
 use Rattle.dual_fields.specs.Sharing.{is_text}
-use Rattle.line21_shown.specs.Reading.{IsMarked}
+use Rattle.dual_fields.specs.Reading.{IsMarked}
 use Rattle.dual_fields.proofs.OwnLemmas.{channels_own}
-use Rattle.line21_shown.proofs.ReadingLemmas.{fields_read}
+use Rattle.dual_fields.proofs.ReadingLemmas.{fields_read}
 use Rattle.dual_fields.proofs.SharingLemmas.{IsOn, on_from, passes_other, reaches_own}
 
 -- text in extended data reaches no channel, nor does a pair of theirs

@@ -24,11 +24,11 @@ use Rattle.line21_screen.specs.Channels.{ChannelState, new_channel}
 use Rattle.line21_screen.specs.Fields.{FieldState, channel}
 use Rattle.line21_screen.specs.Meaning.{after}
 use Rattle.line21_slots.specs.Cadences.{cadence_of, slot_from, slot_in}
-use Rattle.line21_shown.proofs.CaptionedLemmas.{AreBytes, channel_captioned, frame_bytes}
-use Rattle.line21_shown.proofs.ReadingLemmas.{columns_read}
-use Rattle.line21_shown.proofs.SequenceLemmas.{newest_pairs}
-use Rattle.line21_shown.specs.Reading.{IsCaptioned, IsMarked, acts, first_alone, pairs_before}
-use Rattle.line21_shown.specs.Shown.{state_at}
+use Rattle.dual_fields.proofs.CaptionedLemmas.{AreBytes, channel_captioned, frame_bytes}
+use Rattle.dual_fields.proofs.ReadingLemmas.{columns_read}
+use Rattle.dual_fields.proofs.SequenceLemmas.{newest_pairs}
+use Rattle.dual_fields.specs.Reading.{IsCaptioned, IsMarked, acts, first_alone, pairs_before}
+use Rattle.dual_fields.specs.Shown.{state_at}
 use Rattle.frame_carrier.specs.Carried.{AreBytePairs, IsBytePair}
 use Rattle.lanes.specs.ChannelLane.{channel_chunks, channel_slot}
 use Rattle.frame_scheduler.specs.Columns.{first_pairs, pair_in}

@@ -13,9 +13,9 @@ use Rattle.line21_screen.specs.Channels.{new_channel}
 use Rattle.line21_screen.specs.Fields.{begins_xds, channel}
 use Rattle.line21_screen.specs.Meaning.{after}
 use Rattle.lanes.specs.Timeline.{Timeline, over, repeat_of, slot}
-use Rattle.line21_shown.specs.Reading.{acts, pairs_before}
+use Rattle.dual_fields.specs.Reading.{acts, pairs_before}
 use Rattle.dual_fields.specs.Sharing.{AreFor, IsLed, is_text}
-use Rattle.line21_shown.specs.Reading.{IsMarked}
+use Rattle.dual_fields.specs.Reading.{IsMarked}
 
 -- a pair that begins or goes on with extended data
 abbrev pub begins : Code → Type 0

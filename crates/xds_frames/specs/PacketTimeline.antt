@@ -8,7 +8,7 @@ use Rattle.line21_codes.specs.declared.pairs.Pair.{Pair}
 use Rattle.line21_codes.specs.Reading.{code_of}
 use Rattle.line21_codes.specs.Writing.{pair_of_code}
 use Rattle.line21_author.specs.declared.unit.Unit.{Unit}
-use Rattle.line21_shown.specs.Reading.{IsMarked}
+use Rattle.dual_fields.specs.Reading.{IsMarked}
 use Rattle.lanes.specs.Timeline.{Timeline, repeat_of}
 use Rattle.dual_fields.specs.Sharing.{AreFor, is_text}
 use Rattle.xds_frames.specs.Outside.{AreOutside}

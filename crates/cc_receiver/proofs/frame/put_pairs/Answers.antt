@@ -1,7 +1,7 @@
 use Rattle.std.proofs.Common.{◌<◌, false, length, get_or, take, ap, sym, ◌∙◌, arith}
 use Rattle.std.proofs.lemmas.List.{length-take, take_all, take_more}
 use Rattle.cc_data.specs.declared.triplet.Triplet.{Triplet as TripletOf}
-use Rattle.words_files.specs.Received.{field_pair, field_pairs}
+use Rattle.services_files.specs.Received.{field_pair, field_pairs}
 use Rattle.cc_receiver.specs.Gathering.{pair_more}
 use Rattle.cc_receiver.proofs.GatheredLemmas.{pairs_one_more}
 use Rattle.cc_receiver.proofs.frame.put_pairs.Goals as goal

@@ -1,6 +1,6 @@
 use Rattle.std.proofs.Common.{◌≡◌, ◌≤◌, [], length, take}
 use Rattle.line21_codes.specs.declared.channels.FieldNumber.{FieldNumber}
-use Rattle.words_files.specs.Received.{field_kind, field_pairs}
+use Rattle.services_files.specs.Received.{field_kind, field_pairs}
 use Rattle.cc_receiver.proofs.frame.put_pairs.Given as goal
 
 -- the pairs of so many triplets were put

@@ -4,7 +4,7 @@ use Rattle.cc_receiver.specs.ReceivedServices.{received_windows}
 use Rattle.cc_receiver.specs.Receivers.{HasReceived}
 use Rattle.cdp_packets.specs.Packets.{Frame}
 use Rattle.words_files.specs.FramesOf.{AreFramesOf}
-use Rattle.services_files.specs.CaptionChannel.{caption_channel}
+use Rattle.cc_receiver.specs.CaptionChannel.{caption_channel}
 use Rattle.cc_verifier.proofs.service_checks.has_other_window.Given as goal
 
 -- the first windows are seen as they are authored

@@ -1,4 +1,4 @@
-use Rattle.line21_author.specs.CueSlots.{cues_in_slots}
+use Rattle.lanes.specs.CueSlots.{cues_in_slots}
 use Rattle.lanes.proofs.ChannelOrderLemmas.{channel_in_order}
 use Rattle.frame_scheduler.proofs.planning.placed_channel.Goals as goal
 

@@ -3,7 +3,7 @@ use Rattle.cc_receiver.specs.Feeds.{Counts}
 use Rattle.cc_receiver.specs.Receivers.{HasReceived}
 use Rattle.cc_receiver.specs.declared.receiver.Ended.{Ended}
 use Rattle.cc_receiver.specs.declared.receiver.Ended.TheVariants as ended
-use Rattle.words_reading.proofs.PieceLemmas.{front_more, rest_size}
+use Rattle.words_commands.proofs.PieceLemmas.{front_more, rest_size}
 use Rattle.load_commands.proofs.reception.feed_all.Goals as goal
 
 -- no more frames are counted than bytes were read

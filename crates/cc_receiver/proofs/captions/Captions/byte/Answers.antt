@@ -1,6 +1,6 @@
 use Rattle.std.proofs.Common.{◌∙◌, Option, sym, subst}
 use Rattle.cdp_packets.specs.declared.reader.CdpReader.{CdpReader}
-use Rattle.words_files.specs.Catching.{taken}
+use Rattle.services_files.specs.Catching.{taken}
 use Rattle.services_files.specs.Services.{services_say}
 use Rattle.cc_receiver.specs.Catchers.{KeepsOpen}
 use Rattle.cc_receiver.proofs.ByteLemmas.{FeedsByte, goes, kept_going}

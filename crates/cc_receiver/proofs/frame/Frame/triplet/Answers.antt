@@ -1,6 +1,6 @@
 use Rattle.std.proofs.Common.{ap, refl, ◌∙◌}
 use Rattle.line21_codes.specs.declared.channels.FieldNumber.TheVariants.{One, Two}
-use Rattle.words_files.specs.Received.{field_pair}
+use Rattle.services_files.specs.Received.{field_pair}
 use Rattle.cc_receiver.specs.Gathering.{pair_more}
 use Rattle.cc_receiver.proofs.frame.Frame.triplet.Goals as goal
 

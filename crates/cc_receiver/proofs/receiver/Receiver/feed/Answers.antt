@@ -4,7 +4,7 @@ use Rattle.std.proofs.lemmas.List.Elements.{All-drop}
 use Rattle.cc_base.specs.Syntax.{open_behind}
 use Rattle.anc_words.specs.Ending.{bytes_to_end}
 use Rattle.anc_words.specs.Reading.{anc_syntax}
-use Rattle.words_files.specs.Catching.{refusal_of}
+use Rattle.services_files.specs.Catching.{refusal_of}
 use Rattle.services_files.specs.Services.{services_say}
 use Rattle.services_files.proofs.ChannelFiles.{refused_offence, unrefused_unoffending}
 use Rattle.cc_receiver.specs.declared.receiver.Ended.TheVariants as ended

@@ -1,5 +1,5 @@
 use Rattle.std.proofs.Common.{◌∙◌, ap, length}
-use Rattle.dtvcc_screen.specs.Meaning.{served_after, start}
+use Rattle.services_files.specs.Meaning.{served_after, start}
 use Rattle.cc_receiver.proofs.ServedLemmas.{received_events}
 use Rattle.cc_receiver.proofs.receiver.Receiver.held.Goals as goal
 

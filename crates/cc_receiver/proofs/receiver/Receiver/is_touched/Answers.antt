@@ -1,6 +1,6 @@
 use Rattle.std.proofs.Common.{◌∙◌, ap}
-use Rattle.dtvcc_screen.specs.Meaning.{served_after, start}
-use Rattle.dtvcc_screen.specs.Shown.{grids}
+use Rattle.services_files.specs.Meaning.{served_after, start}
+use Rattle.services_files.specs.Shown.{grids}
 use Rattle.services_files.specs.Events.{frame_events, service_events}
 use Rattle.services_files.specs.CarriedChannel.{file_triplets}
 use Rattle.services_files.proofs.EventLemmas.{events_more}

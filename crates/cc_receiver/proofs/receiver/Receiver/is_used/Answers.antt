@@ -1,7 +1,7 @@
 use Rattle.std.proofs.Common.{◌∙◌, ap, sym}
-use Rattle.dtvcc_screen.specs.Meaning.{served_after, start}
-use Rattle.dtvcc_screen.specs.Screens.{ScreenState}
-use Rattle.dtvcc_screen.specs.Shown.{grids}
+use Rattle.services_files.specs.Meaning.{served_after, start}
+use Rattle.services_files.specs.Screens.{ScreenState}
+use Rattle.services_files.specs.Shown.{grids}
 use Rattle.cc_receiver.proofs.ServedLemmas.{received_events}
 use Rattle.cc_receiver.proofs.receiver.Receiver.is_used.Goals as goal
 

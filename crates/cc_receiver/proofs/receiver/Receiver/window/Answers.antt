@@ -1,6 +1,6 @@
 use Rattle.std.proofs.Common.{◌≡◌, None, ap, subst}
 use Rattle.std.specs.Prelude.{MatchOption}
-use Rattle.dtvcc_screen.specs.Meaning.{Served, served_after, start}
+use Rattle.services_files.specs.Meaning.{Served, served_after, start}
 use Rattle.dtvcc_windows.specs.Objects.{window_of}
 use Rattle.cc_receiver.proofs.ServedLemmas.{received_events}
 use Rattle.cc_receiver.proofs.receiver.Receiver.window.Goals as goal

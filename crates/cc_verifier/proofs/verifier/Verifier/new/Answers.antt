@@ -6,7 +6,7 @@ use Rattle.cc_verifier.specs.Services.{KnowServices, StandAt}
 use Rattle.cc_verifier.proofs.WindowTurnLemmas.{ruled_in_turn}
 use Rattle.words_files.proofs.FramesOfLemmas.{file_frames}
 use Rattle.words_files.specs.Received.{received_grids}
-use Rattle.services_files.specs.CaptionChannel.{caption_channel}
+use Rattle.cc_receiver.specs.CaptionChannel.{caption_channel}
 use Rattle.cc_verifier.proofs.FindingLemmas.{clean_none}
 use Rattle.cc_verifier.proofs.KeptLemmas.{ruled_timed}
 use Rattle.cc_receiver.proofs.FedFrames.{nothing_is_file}
