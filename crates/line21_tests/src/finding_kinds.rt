@@ -1,5 +1,5 @@
 use cc_base::Rate;
-use findings::{Kind45, MisfitKind, Which};
+use findings::{Kind45, Which};
 use line21_codes::Chan;
 
 #[test]
@@ -41,20 +41,5 @@ fn findings_have_the_reasons_40_to_46(rt: HostRuntime) {
     ];
     for &(kind, number, name) in FINDINGS {
         assert!(rt; kind.why().number() == number && kind.why().name() == name);
-    }
-}
-
-#[test]
-fn misfits_have_their_names(rt: HostRuntime) {
-    const MISFITS: &[(MisfitKind, &str)] = &[
-        (MisfitKind::Rate(5), "Rate"),
-        (MisfitKind::Count(19), "Count"),
-        (MisfitKind::One(2), "One"),
-        (MisfitKind::Two(2), "Two"),
-        (MisfitKind::Many(19), "Many"),
-        (MisfitKind::Changed(Which::Service(1)), "Changed"),
-    ];
-    for &(kind, name) in MISFITS {
-        assert!(rt; kind.name() == name);
     }
 }

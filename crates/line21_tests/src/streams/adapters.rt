@@ -1,10 +1,8 @@
 //! The adapters over a reader and a writer that fail at a chosen call.
 
 use cc_base::{Put, ReaderSource, Sink, Source, Took, WriterSink};
-use std::alloc::Global;
 use std::io;
 use std::io::{Read, Write};
-use std::test::Fail;
 
 /// A reader that gives its text byte by byte, and is interrupted at the call of a number.
 #[derive(Drop)]
@@ -35,20 +33,20 @@ impl<'a> Read for Interrupted<'a> {
 #[test]
 fn a_read_that_fails_is_a_failed_take_and_isnt_tried_again(rt: HostRuntime) {
     let runs = [
-        [Took::Failed, Took::Got(1), Took::Got(1), Took::End],
-        [Took::Got(1), Took::Failed, Took::Got(1), Took::End],
-        [Took::Got(1), Took::Got(1), Took::Failed, Took::End],
-        [Took::Got(1), Took::Got(1), Took::End, Took::Failed],
+        (0, [Took::Failed, Took::Got(1), Took::Got(1), Took::End]),
+        (1, [Took::Got(1), Took::Failed, Took::Got(1), Took::End]),
+        (2, [Took::Got(1), Took::Got(1), Took::Failed, Took::End]),
+        (3, [Took::Got(1), Took::Got(1), Took::End, Took::Failed]),
     ];
-    for (failing, takes) in [0u8, 1, 2, 3].iter().zip(runs) {
+    for (failing, takes) in runs {
         let mut source = ReaderSource::new(Interrupted {
             text: b"ab",
             calls: 0,
-            failing: *failing,
+            failing,
         });
         let mut buf = [0u8; 4];
         for due in takes {
-            assert!(rt; source.take(&mut buf) == due, "call {failing} fails");
+            assert!(rt; source.take(&mut buf) == due);
         }
     }
 }
@@ -62,18 +60,11 @@ struct Choppy {
     flushes: u8,
 }
 
-impl Choppy {
-    /// Counts a call, and says whether it fails.
-    fn fails(&mut self) -> bool {
-        let call = self.calls;
-        self.calls = self.calls.saturating_add(1);
-        call == self.failing
-    }
-}
-
 impl Write for Choppy {
     fn write(&mut self, buf: &[u8]) -> io::Result<usize> {
-        if self.fails() {
+        let call = self.calls;
+        self.calls = self.calls.saturating_add(1);
+        if call == self.failing {
             return Err(io::Error::from(io::ErrorKind::Interrupted));
         }
         let most = buf.len().min(2);
@@ -82,42 +73,36 @@ impl Write for Choppy {
     }
 
     fn flush(&mut self) -> io::Result<()> {
+        let call = self.calls;
+        self.calls = self.calls.saturating_add(1);
         self.flushes = self.flushes.saturating_add(1);
-        if self.fails() {
+        if call == self.failing {
             return Err(io::Error::from(io::ErrorKind::BrokenPipe));
         }
         Ok(())
     }
 }
 
-fn writer_that_fails(alloc: Global, failing: u8) -> Choppy {
-    Choppy {
-        got: Vec::new(alloc),
-        calls: 0,
-        failing,
-        flushes: 0,
-    }
-}
+// The number of the call that fails, what the put answers, what was written, and the flushes.
+const PUTS: [(u8, Put, &[u8], u8); 5] = [
+    (0, Put::Failed, b"", 0),
+    (1, Put::Failed, b"ab", 0),
+    (2, Put::Failed, b"abcd", 0),
+    (3, Put::Failed, b"abcde", 1),
+    (4, Put::Done, b"abcde", 1),
+];
 
 #[test]
-fn a_put_writes_all_and_flushes_once_or_fails(rt: HostRuntime) -> Result<(), Fail> {
-    let calls: [(u8, Put, &[u8], u8); 5] = [
-        (0, Put::Failed, b"", 0),
-        (1, Put::Failed, b"ab", 0),
-        (2, Put::Failed, b"abcd", 0),
-        (3, Put::Failed, b"abcde", 1),
-        (4, Put::Done, b"abcde", 1),
-    ];
-    for (failing, due, got, flushes) in calls {
-        let mut writer = writer_that_fails(rt.alloc(), failing);
+fn a_put_writes_all_and_flushes_once_or_fails(rt: HostRuntime) {
+    for (failing, due, got, flushes) in PUTS {
+        let mut writer = Choppy {
+            got: Vec::new(rt.alloc()),
+            calls: 0,
+            failing,
+            flushes: 0,
+        };
         let mut sink = WriterSink::new(&mut writer);
-        let nothing = sink.put(b"");
-        let answer = sink.put(b"abcde");
-        assert!(rt; nothing == Put::Done);
-        assert!(rt;
-            answer == due && writer.got.as_slice() == got && writer.flushes == flushes,
-            "call {failing} fails"
-        );
+        assert!(rt; sink.put(b"") == Put::Done && sink.put(b"abcde") == due);
+        assert!(rt; writer.got.as_slice() == got && writer.flushes == flushes);
     }
-    Ok(())
 }

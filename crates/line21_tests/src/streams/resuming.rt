@@ -81,23 +81,15 @@ impl Upward<u16> for Tally {
     }
 }
 
-fn new_reader() -> Fed<Numbers> {
-    Fed::new(Numbers { number: 0 })
-}
-
-fn new_tally() -> Tally {
-    Tally {
-        count: 0,
-        digits: 0,
-    }
-}
-
 // Feeds the bytes in pieces of this size to a reader and its tally.
 fn feed_in_pieces(bytes: &[u8], size: usize) -> (Result<(), Refusal>, Tally)
     requires { 0 < size }
 {
-    let mut reader = new_reader();
-    let mut tally = new_tally();
+    let mut reader = Fed::new(Numbers { number: 0 });
+    let mut tally = Tally {
+        count: 0,
+        digits: 0,
+    };
     let mut answer = Ok(());
     for piece in bytes.chunks(size) {
         answer = reader.feed(piece, &mut tally);
@@ -105,83 +97,63 @@ fn feed_in_pieces(bytes: &[u8], size: usize) -> (Result<(), Refusal>, Tally)
     (answer, tally)
 }
 
-#[test]
-fn any_pieces_are_read_alike(rt: HostRuntime) {
-    for size in [1, 2, 3, 5, 100] {
-        let (answer, tally) = feed_in_pieces(b"1,22,333,4", size);
-        assert!(rt;
-            answer.is_ok() && tally.count == 3 && tally.digits == 10_002_200_333,
-            "size {size}"
-        );
+// What is fed, the refusal, and the tally's count and digits.
+const TEXTS: [(&[u8], Option<(u64, Why)>, u64, u64); 5] = [
+    (b"1,22,333,4", None, 3, 10_002_200_333),
+    (b"1,2x3,4,", Some((2, Why::Field)), 1, 1),
+    (b"1,13,4,", Some((4, Why::Clash)), 2, 100_013),
+    (b"7;8,", None, 3, 76_553_500_008),
+    (b"13;8,", Some((2, Why::Clash)), 1, 13),
+];
 
-        let (answer, tally) = feed_in_pieces(b"1,2x3,4,", size);
-        let refusal = Refusal {
-            place: 2,
-            why: Why::Field,
+#[test]
+fn any_pieces_are_read_alike_up_to_a_refused_item_or_part(rt: HostRuntime) {
+    for (text, refusal, count, digits) in TEXTS {
+        let due = match refusal {
+            Some((place, why)) => Err(Refusal { place, why }),
+            None => Ok(()),
         };
-        assert!(rt;
-            answer == Err(refusal) && tally.count == 1 && tally.digits == 1,
-            "size {size}"
-        );
+        for size in [1, 2, 3, 5, 100] {
+            let (answer, tally) = feed_in_pieces(text, size);
+            assert!(rt; answer == due && tally.count == count && tally.digits == digits);
+        }
     }
-}
-
-#[test]
-fn a_refused_part_refuses_its_item(rt: HostRuntime) {
-    for size in [1, 2, 100] {
-        let (answer, tally) = feed_in_pieces(b"1,13,4,", size);
-        let refusal = Refusal {
-            place: 4,
-            why: Why::Clash,
-        };
-        assert!(rt;
-            answer == Err(refusal) && tally.count == 2 && tally.digits == 100_013,
-            "size {size}"
-        );
-    }
-}
-
-#[test]
-fn two_parts_come_in_order_up_to_a_refused_one(rt: HostRuntime) {
-    let (answer, tally) = feed_in_pieces(b"7;8,", 3);
-    assert!(rt; answer.is_ok() && tally.count == 3 && tally.digits == 76_553_500_008);
-
-    let (answer, tally) = feed_in_pieces(b"13;8,", 3);
-    let refusal = Refusal {
-        place: 2,
-        why: Why::Clash,
-    };
-    assert!(rt; answer == Err(refusal) && tally.count == 1 && tally.digits == 13);
 }
 
 #[test]
 fn two_pieces_are_one(rt: HostRuntime) {
     law_of_pieces::<u8, u16>();
     refusals_are_of_the_first_refused_item::<u8, u16>();
-    let mut reader = new_reader();
-    let mut tally = new_tally();
-    assert!(rt; feed_pieces(&mut reader, b"1,2", b"2,3,", &mut tally).is_ok());
-    assert!(rt; tally.count == 3 && tally.digits == 10_002_200_003);
+    let mut reader = Fed::new(Numbers { number: 0 });
+    let mut tally = Tally {
+        count: 0,
+        digits: 0,
+    };
     let refusal = Refusal {
         place: 6,
         why: Why::Field,
     };
+    assert!(rt; feed_pieces(&mut reader, b"1,2", b"2,3,", &mut tally).is_ok());
+    assert!(rt; tally.count == 3 && tally.digits == 10_002_200_003);
     assert!(rt; feed_pieces(&mut reader, b" ", b"4,", &mut tally) == Err(refusal));
     assert!(rt; tally.count == 3 && tally.digits == 10_002_200_003);
 }
 
 #[test]
 fn items_are_read_one_by_one(rt: HostRuntime) {
-    let mut reader = new_reader();
-    assert!(rt; reader.step(b'4') == Step::Nothing);
-    assert!(rt; reader.step(b',') == Step::One(4));
-    assert!(rt; reader.step(b';') == Step::Two(0, 65535));
+    let mut reader = Fed::new(Numbers { number: 0 });
+    assert!(rt;
+        reader.step(b'4') == Step::Nothing
+            && reader.step(b',') == Step::One(4)
+            && reader.step(b';') == Step::Two(0, 65535)
+    );
+    let refusal = Refusal {
+        place: 2,
+        why: Why::Field,
+    };
     for item in [b'x', b','] {
-        assert!(rt; reader.step(item) == Step::Refuse(Why::Field));
-        let refusal = Refusal {
-            place: 2,
-            why: Why::Field,
-        };
-        assert!(rt; reader.refusal == Some(refusal));
+        assert!(rt;
+            reader.step(item) == Step::Refuse(Why::Field) && reader.refusal == Some(refusal)
+        );
     }
 }
