@@ -20,44 +20,58 @@ pub enum Line<'a> {
     Remark,
     /// A row of this name begins.
     Row(&'a str),
-    /// This text and a line feed are added to the bytes that are held.
-    Line(&'a str),
-    /// This text is.
-    Text(&'a str),
-    /// The bytes of these digits are, so often.
-    Hex(usize, &'a str),
-    /// The packet of captions of this distribution packet is.
-    Packet(&'a str),
-    /// The bytes of these digits are put over those that are held from here on.
-    Set(usize, &'a str),
-    /// From here on so many bytes are taken away.
-    Drop(usize, usize),
+    /// The bytes that are held become others.
+    Held(Change<'a>),
     /// The bytes that are held become the side file.
     Side,
     /// They become the output that is due.
     Due,
-    /// The most bytes that a take of the next run gives.
-    Piece(usize),
-    /// The most bytes that its output takes.
-    Room(usize),
-    /// The numbers of its calls that fail.
-    Failing(Calls, &'a str),
-    /// Its output isn't printed.
-    Silent,
+    /// The last output is held.
+    Hold,
+    /// So many of the first bytes of the last output become the output that is due.
+    Keep(usize),
+    /// Something is set for the next run.
+    Next(Choice<'a>),
     /// A run without words.
     RunAlone,
     /// A run of the words of this text, split at this character.
     Run(&'a str, char),
     /// A run of these words, whose output is then held.
     Feed(&'a str),
-    /// The last output is held.
-    Hold,
-    /// So many of the first bytes of the last output become the output that is due.
-    Keep(usize),
     /// Parts of the last output.
     Cut(Parts),
     /// The low bytes of the words in each of its parts.
     Low(Parts),
+}
+
+/// What becomes of the bytes that are held.
+#[derive(Clone, Copy)]
+pub enum Change<'a> {
+    /// This text and a line feed are added.
+    Line(&'a str),
+    /// This text is added.
+    Text(&'a str),
+    /// The bytes of these digits are added so often.
+    Hex(usize, &'a str),
+    /// The packet of captions of this distribution packet is added.
+    Packet(&'a str),
+    /// The bytes of these digits are put over those from a place on.
+    Set(usize, &'a str),
+    /// So many bytes from a place on are taken away.
+    Drop(usize, usize),
+}
+
+/// What is set for the next run.
+#[derive(Clone, Copy)]
+pub enum Choice<'a> {
+    /// The most bytes that a take gives.
+    Piece(usize),
+    /// The most bytes that the output takes.
+    Room(usize),
+    /// The numbers of the calls that fail.
+    Failing(Calls, &'a str),
+    /// The output isn't printed.
+    Silent,
 }
 
 /// Parts of an output.
@@ -65,7 +79,7 @@ pub enum Line<'a> {
 pub struct Parts {
     /// The place of the first part.
     pub at: usize,
-    /// How far the next one is from each; 0 if there is one part.
+    /// How far the next one is from each.
     pub every: usize,
     /// The bytes of each part.
     pub count: usize,
@@ -85,15 +99,25 @@ pub fn read_line(text: &str) -> Option<Line<'_>> {
     }
 }
 
+/// The line of a change of what is held.
+fn held(change: Change<'_>) -> Option<Line<'_>> {
+    Some(Line::Held(change))
+}
+
+/// The line of something that is set.
+fn next(choice: Choice<'_>) -> Option<Line<'_>> {
+    Some(Line::Next(choice))
+}
+
 /// The line of one word.
 fn read_word(word: &str) -> Option<Line<'static>> {
     match word {
         "side" => Some(Line::Side),
         "due" => Some(Line::Due),
         "hold" => Some(Line::Hold),
-        "silent" => Some(Line::Silent),
+        "silent" => next(Choice::Silent),
         "run" => Some(Line::RunAlone),
-        "line" => Some(Line::Line("")),
+        "line" => held(Change::Line("")),
         _ => None,
     }
 }
@@ -102,14 +126,14 @@ fn read_word(word: &str) -> Option<Line<'static>> {
 fn read_more<'a>(word: &str, rest: &'a str) -> Option<Line<'a>> {
     match word {
         "row" => Some(Line::Row(rest)),
-        "line" => Some(Line::Line(rest)),
-        "text" => Some(Line::Text(rest)),
-        "hex" => Some(Line::Hex(1, rest)),
-        "packet" => Some(Line::Packet(rest)),
+        "line" => held(Change::Line(rest)),
+        "text" => held(Change::Text(rest)),
+        "hex" => held(Change::Hex(1, rest)),
+        "packet" => held(Change::Packet(rest)),
         "run" => Some(Line::Run(rest, ' ')),
         "feed" => Some(Line::Feed(rest)),
-        "piece" => Some(Line::Piece(rest.parse().ok()?)),
-        "room" => Some(Line::Room(rest.parse().ok()?)),
+        "piece" => next(Choice::Piece(rest.parse().ok()?)),
+        "room" => next(Choice::Room(rest.parse().ok()?)),
         "keep" => Some(Line::Keep(rest.parse().ok()?)),
         _ => {
             let (first, rest) = rest.split_once(' ')?;
@@ -121,22 +145,26 @@ fn read_more<'a>(word: &str, rest: &'a str) -> Option<Line<'a>> {
 /// The line of a word, one more and the rest.
 fn read_longer<'a>(word: &str, first: &str, rest: &'a str) -> Option<Line<'a>> {
     match word {
-        "times" => Some(Line::Hex(first.parse().ok()?, rest)),
-        "set" => Some(Line::Set(first.parse().ok()?, rest)),
-        "drop" => Some(Line::Drop(first.parse().ok()?, rest.parse().ok()?)),
-        "failing" => Some(Line::Failing(read_calls(first)?, rest)),
+        "times" => held(Change::Hex(first.parse().ok()?, rest)),
+        "set" => held(Change::Set(first.parse().ok()?, rest)),
+        "drop" => held(Change::Drop(first.parse().ok()?, rest.parse().ok()?)),
+        "failing" => next(Choice::Failing(read_calls(first)?, rest)),
         "cut" => Some(Line::Cut(read_parts(first, rest)?)),
         "low" => Some(Line::Low(read_parts(first, rest)?)),
         _ => None,
     }
 }
 
-/// The parts of their first place and the rest.
+/// Parts: where the first begins, how far each is from the next (0 if there is one alone), and the bytes of each.
 fn read_parts(first: &str, rest: &str) -> Option<Parts> {
     let (every, count) = rest.split_once(' ')?;
+    let every = match every {
+        "0" => usize::MAX,
+        _ => every.parse().ok()?,
+    };
     Some(Parts {
         at: first.parse().ok()?,
-        every: every.parse().ok()?,
+        every,
         count: count.parse().ok()?,
     })
 }

@@ -1,13 +1,11 @@
 //! What is printed of a run.
 
 use crate::line::Parts;
+use hex_digits::upper_hex_digit;
 use itoa::Buffer;
 use memory_runs::Ended;
 use std::alloc::AllocError;
 use std::str;
-
-/// The digits of hex.
-const DIGITS: [u8; 16] = *b"0123456789ABCDEF";
 
 /// The bytes of a line of hex.
 const BYTES_A_LINE: usize = 40;
@@ -65,42 +63,49 @@ fn put_error(report: &mut Vec<u8>, line: &[u8]) -> Result<(), AllocError> {
     }
 }
 
-/// Adds bytes: as lines of text, if they are of characters and line feeds alone, and else as hex.
+/// Adds bytes: as lines of text, if they are of characters, tabs and line feeds alone, and else as hex.
 pub fn put_bytes(report: &mut Vec<u8>, bytes: &[u8]) -> Result<(), AllocError> {
-    if is_text(bytes) {
-        put_text(report, bytes)
-    } else {
-        put_hex(report, bytes)
+    match str::from_utf8(bytes) {
+        Ok(text) if is_plain(bytes) => put_text(report, text),
+        _ => put_hex(report, bytes),
     }
 }
 
-/// Whether bytes are UTF-8 without control characters but line feeds and tabs.
-fn is_text(bytes: &[u8]) -> bool {
-    if str::from_utf8(bytes).is_err() {
-        return false;
-    }
+/// Whether bytes have no control character but tabs and line feeds.
+fn is_plain(bytes: &[u8]) -> bool {
     for byte in bytes {
-        if *byte != b'\n' && *byte != b'\t' && (*byte < b' ' || *byte == 0x7F) {
-            return false;
+        match *byte {
+            b'\t' | b'\n' => (),
+            0..=31 | 127 => return false,
+            _ => (),
         }
     }
     true
 }
 
-/// Adds lines of text, each after `|`, and a last one without a line feed after `+`.
-fn put_text(report: &mut Vec<u8>, bytes: &[u8]) -> Result<(), AllocError> {
-    for line in bytes.split_inclusive(|byte| *byte == b'\n') {
-        match line.split_last() {
-            Some((b'\n', _)) => {
-                report.push(b'|')?;
-                report.extend_from_slice(line)?;
-            }
-            _ => {
-                report.push(b'+')?;
-                report.extend_from_slice(line)?;
-                report.push(b'\n')?;
-            }
+/// Adds a text: its lines, each after `|`, and a last one without a line feed after `+`.
+fn put_text(report: &mut Vec<u8>, text: &str) -> Result<(), AllocError> {
+    let last = match text.rsplit_once('\n') {
+        Some((lines, last)) => {
+            put_lines(report, lines)?;
+            last
         }
+        None => text,
+    };
+    if last.is_empty() {
+        return Ok(());
+    }
+    report.extend_from_slice(b"+")?;
+    report.extend_from_slice(last.as_bytes())?;
+    report.extend_from_slice(b"\n")
+}
+
+/// Adds lines, each after `|`.
+fn put_lines(report: &mut Vec<u8>, lines: &str) -> Result<(), AllocError> {
+    for line in lines.split('\n') {
+        report.extend_from_slice(b"|")?;
+        report.extend_from_slice(line.as_bytes())?;
+        report.extend_from_slice(b"\n")?;
     }
     Ok(())
 }
@@ -128,30 +133,18 @@ fn put_groups(report: &mut Vec<u8>, bytes: &[u8]) -> Result<(), AllocError> {
 
 /// Adds the digits of a byte.
 fn put_byte(report: &mut Vec<u8>, byte: u8) -> Result<(), AllocError> {
-    let high = DIGITS[usize::from(byte >> 4)];
-    let low = DIGITS[usize::from(byte & 15)];
-    report.extend_from_slice(&[high, low])
+    report.extend_from_slice(&[upper_hex_digit(byte / 16), upper_hex_digit(byte % 16)])
 }
 
-/// The bytes of a part that begins here, and of the next ones.
+/// The first bytes of a part; all if it has fewer.
 fn front(rest: &[u8], count: usize) -> &[u8] {
     rest.get(..count).unwrap_or(rest)
 }
 
-/// The bytes of an output from the first part on, and how far one part is from the next.
-fn laid_out(output: &[u8], parts: Parts) -> (&[u8], usize) {
-    let every = if parts.every == 0 {
-        usize::MAX
-    } else {
-        parts.every
-    };
-    (output.get(parts.at..).unwrap_or(b""), every)
-}
-
 /// Adds parts of an output, each as such an output is added.
 pub fn put_parts(report: &mut Vec<u8>, output: &[u8], parts: Parts) -> Result<(), AllocError> {
-    let (rest, every) = laid_out(output, parts);
-    for part in rest.chunks(every) {
+    let rest = output.get(parts.at..).unwrap_or(b"");
+    for part in rest.chunks(parts.every.max(1)) {
         put_bytes(report, front(part, parts.count))?;
     }
     Ok(())
@@ -159,10 +152,10 @@ pub fn put_parts(report: &mut Vec<u8>, output: &[u8], parts: Parts) -> Result<()
 
 /// Adds the low bytes of the words in parts of an output, a line for those that come one after another and are the same.
 pub fn put_low(report: &mut Vec<u8>, output: &[u8], parts: Parts) -> Result<(), AllocError> {
-    let (rest, every) = laid_out(output, parts);
+    let rest = output.get(parts.at..).unwrap_or(b"");
     let mut last: &[u8] = b"";
     let mut times = 0usize;
-    for part in rest.chunks(every) {
+    for part in rest.chunks(parts.every.max(1)) {
         let part = front(part, parts.count);
         if times > 0 && part != last {
             put_times(report, times, last)?;

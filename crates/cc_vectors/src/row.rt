@@ -1,6 +1,6 @@
 //! A row as it stands after some of its lines.
 
-use crate::line::{Calls, Line};
+use crate::line::{Calls, Change, Choice, Line};
 use crate::report::{put_ended, put_line, put_low, put_parts};
 use hex_digits::hex_value;
 use memory_runs::words::frame_of;
@@ -49,14 +49,18 @@ impl Setting {
         }
     }
 
-    /// The numbers of the calls that fail.
-    fn failing(&mut self, calls: Calls) -> &mut Vec<u64> {
-        match calls {
-            Calls::Takes => &mut self.takes,
-            Calls::Side => &mut self.side,
-            Calls::Puts => &mut self.puts,
-            Calls::Line => &mut self.line,
+    /// Sets something.
+    fn set(&mut self, choice: Choice<'_>) -> Result<(), Stop> {
+        match choice {
+            Choice::Piece(size) => self.piece = size,
+            Choice::Room(size) => self.room = size,
+            Choice::Silent => self.is_silent = true,
+            Choice::Failing(Calls::Takes, numbers) => add_numbers(&mut self.takes, numbers)?,
+            Choice::Failing(Calls::Side, numbers) => add_numbers(&mut self.side, numbers)?,
+            Choice::Failing(Calls::Puts, numbers) => add_numbers(&mut self.puts, numbers)?,
+            Choice::Failing(Calls::Line, numbers) => add_numbers(&mut self.line, numbers)?,
         }
+        Ok(())
     }
 }
 
@@ -90,72 +94,64 @@ impl Row {
         report: &mut Vec<u8>,
     ) -> Result<(), Stop> {
         match line.ok_or(Stop::Unread)? {
+            Line::Remark => (),
             Line::Row(name) => {
                 *self = Row::new(alloc);
                 put_line(report, "row", name)?;
             }
+            Line::Held(change) => self.change(alloc, change)?,
+            Line::Side => self.side = self.give_up(alloc),
+            Line::Due => self.due = Some(self.give_up(alloc)),
+            Line::Hold => self.held = self.put.as_slice().to_vec(alloc)?,
+            Line::Keep(size) => self.keep(alloc, size)?,
+            Line::Next(choice) => self.setting.set(choice)?,
             Line::RunAlone => {
                 report.extend_from_slice(b"run\n")?;
                 self.run(alloc, &[], report)?;
             }
-            Line::Run(text, mark) => {
-                report.extend_from_slice(if mark == ' ' { b"run " } else { b"run|" })?;
-                report.extend_from_slice(text.as_bytes())?;
-                report.extend_from_slice(b"\n")?;
-                let words: Vec<&str> = text.split(mark).collect(alloc)?;
-                self.run(alloc, &words, report)?;
-            }
+            Line::Run(text, mark) => self.run_words(alloc, text, mark, report)?,
             Line::Feed(text) => self.feed(alloc, text, report)?,
             Line::Cut(parts) => put_parts(report, &self.put, parts)?,
             Line::Low(parts) => put_low(report, &self.put, parts)?,
-            line => self.prepare(alloc, line)?,
         }
         Ok(())
     }
 
-    /// Does a line that prints nothing.
-    fn prepare(&mut self, alloc: Global, line: Line<'_>) -> Result<(), Stop> {
-        match line {
-            Line::Side => self.side = mem::replace(&mut self.held, Vec::new(alloc)),
-            Line::Due => self.due = Some(mem::replace(&mut self.held, Vec::new(alloc))),
-            Line::Piece(size) => self.setting.piece = size,
-            Line::Room(size) => self.setting.room = size,
-            Line::Hold => self.held = self.put.as_slice().to_vec(alloc)?,
-            Line::Keep(size) => {
-                let front = self.put.get(..size).ok_or(Stop::Unread)?;
-                self.due = Some(front.to_vec(alloc)?);
-            }
-            Line::Silent => self.setting.is_silent = true,
-            Line::Failing(calls, numbers) => add_numbers(self.setting.failing(calls), numbers)?,
-            line => self.hold(alloc, line)?,
-        }
+    /// The bytes that are held; none are after it.
+    fn give_up(&mut self, alloc: Global) -> Vec<u8> {
+        mem::replace(&mut self.held, Vec::new(alloc))
+    }
+
+    /// Has the first bytes of the last output be due. They have to be there.
+    fn keep(&mut self, alloc: Global, size: usize) -> Result<(), Stop> {
+        let front = self.put.get(..size).ok_or(Stop::Unread)?;
+        self.due = Some(front.to_vec(alloc)?);
         Ok(())
     }
 
-    /// Does a line that changes the bytes that are held.
-    fn hold(&mut self, alloc: Global, line: Line<'_>) -> Result<(), Stop> {
-        match line {
-            Line::Line(text) => {
+    /// Changes the bytes that are held.
+    fn change(&mut self, alloc: Global, change: Change<'_>) -> Result<(), Stop> {
+        match change {
+            Change::Line(text) => {
                 self.held.extend_from_slice(text.as_bytes())?;
                 self.held.extend_from_slice(b"\n")?;
             }
-            Line::Text(text) => self.held.extend_from_slice(text.as_bytes())?,
-            Line::Hex(times, digits) => {
+            Change::Text(text) => self.held.extend_from_slice(text.as_bytes())?,
+            Change::Hex(times, digits) => {
                 let bytes = bytes_of(alloc, digits)?;
                 for _ in 0..times {
                     self.held.extend_from_slice(&bytes)?;
                 }
             }
-            Line::Packet(digits) => {
+            Change::Packet(digits) => {
                 let frame = frame_of(alloc, &bytes_of(alloc, digits)?)?;
                 self.held.extend_from_slice(&frame)?;
             }
-            Line::Set(at, digits) => {
+            Change::Set(at, digits) => {
                 let bytes = bytes_of(alloc, digits)?;
                 self.replace(alloc, at, &bytes, bytes.len())?;
             }
-            Line::Drop(at, count) => self.replace(alloc, at, &[], count)?,
-            _ => (),
+            Change::Drop(at, count) => self.replace(alloc, at, &[], count)?,
         }
         Ok(())
     }
@@ -178,6 +174,21 @@ impl Row {
         held.extend_from_slice(rest)?;
         self.held = held;
         Ok(())
+    }
+
+    /// Runs the program with the words of a text, split at a character, and says how the run ended.
+    fn run_words(
+        &mut self,
+        alloc: Global,
+        text: &str,
+        mark: char,
+        report: &mut Vec<u8>,
+    ) -> Result<(), AllocError> {
+        report.extend_from_slice(if mark == ' ' { b"run " } else { b"run|" })?;
+        report.extend_from_slice(text.as_bytes())?;
+        report.extend_from_slice(b"\n")?;
+        let words: Vec<&str> = text.split(mark).collect(alloc)?;
+        self.run(alloc, &words, report)
     }
 
     /// Runs the program, and says how the run ended.
@@ -229,7 +240,7 @@ impl Row {
 /// Adds the numbers of a text.
 fn add_numbers(numbers: &mut Vec<u64>, text: &str) -> Result<(), Stop> {
     for word in text.split(' ') {
-        let number = word.parse().map_err(|_| Stop::Unread)?;
+        let number = word.parse().ok().ok_or(Stop::Unread)?;
         numbers.extend_from_slice(&[number])?;
     }
     Ok(())
@@ -247,7 +258,7 @@ fn bytes_of(alloc: Global, digits: &str) -> Result<Vec<u8>, Stop> {
         match high {
             None => high = Some(value),
             Some(first) => {
-                bytes.extend_from_slice(&[first * 16 + value])?;
+                bytes.extend_from_slice(&[(first << 4) | value])?;
                 high = None;
             }
         }
