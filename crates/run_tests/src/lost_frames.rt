@@ -281,21 +281,18 @@ fn judge_frame(
 /// of all frames; None if one shows something else.
 fn judge(alloc: Global, sent: Sent<'_>, from: u32, to: u32) -> Result<Option<u32>, AllocError> {
     let mut concealer = Concealer::new(alloc)?;
-    let mut judged = Some(0u32);
+    let mut judged = 0u32;
     let size = sent.words.len() / (sent.list.frames() as usize).max(1);
     let mut frame = 0u32;
     for packet in sent.words.chunks(size.max(1)) {
         let lost = last_lost(from, to, frame);
-        let more = judge_frame(&mut concealer, sent.list, packet, lost, frame);
-        judged = sum_of(judged, more);
+        let Some(more) = judge_frame(&mut concealer, sent.list, packet, lost, frame) else {
+            return Ok(None);
+        };
+        judged = judged.saturating_add(more);
         frame = frame.saturating_add(1);
     }
-    Ok(judged)
-}
-
-/// Both together; None if one of them is.
-fn sum_of(judged: Option<u32>, more: Option<u32>) -> Option<u32> {
-    Some(judged?.saturating_add(more?))
+    Ok(Some(judged))
 }
 
 /// The last frame up to one, of those from one up to another.
