@@ -1,5 +1,5 @@
-//! Tests of DTVCC: its codes, windows and services, what a window cue sends, and the caption channel with its service blocks. Worked
-//! examples of the definitions of the last two are laws, functions without a body.
+//! Tests of DTVCC, of what no row of whole runs shows: calls that no command makes, and sizes. Worked examples of the definitions of
+//! the caption channel and its service blocks are laws, functions without a body.
 #![tactic(auto)]
 
 mod blocks;
@@ -7,10 +7,8 @@ mod caption_channel;
 #[cfg(test)]
 mod commands;
 #[cfg(test)]
-mod service_screens;
+mod readers;
 #[cfg(test)]
 mod services;
-#[cfg(test)]
-mod window_cues;
 #[cfg(test)]
 mod windows;

@@ -5,29 +5,27 @@ use channel_packets::PacketWriter;
 #[test]
 fn packets_are_numbered_and_completed(rt: HostRuntime) {
     let mut writer = PacketWriter::new();
-    // one byte, two, three and four: an even number is completed by a byte 00
-    let blocks = [0x21, 0x41, 0x22, 0x42];
-    for (count, number, expected) in [
-        (1, 0, [[0xFF, 0x01, 0x21], [0xFA, 0, 0], [0xFA, 0, 0]]),
-        (2, 1, [[0xFF, 0x42, 0x21], [0xFE, 0x41, 0x00], [0xFA, 0, 0]]),
-        (3, 2, [[0xFF, 0x82, 0x21], [0xFE, 0x41, 0x22], [0xFA, 0, 0]]),
-        (
-            4,
-            3,
-            [[0xFF, 0xC3, 0x21], [0xFE, 0x41, 0x22], [0xFE, 0x42, 0x00]],
-        ),
-        (1, 0, [[0xFF, 0x01, 0x21], [0xFA, 0, 0], [0xFA, 0, 0]]),
-    ] {
-        let mut out: ArrayVec<Triplet, 64> = ArrayVec::new();
-        writer.write(&blocks[..count], &mut out);
-        assert!(rt; out.len() == count / 2 + 1, "the packet of number {number}");
-        for (triplet, bytes) in out.iter().zip(&expected) {
-            assert!(rt;
-                *triplet == read_triplet(*bytes),
-                "the packet of number {number}"
-            );
-        }
-    }
+    let mut one: ArrayVec<Triplet, 64> = ArrayVec::new();
+    writer.write(&[0x21], &mut one);
+    assert!(rt; one.as_slice() == [read_triplet([0xFF, 0x01, 0x21])].as_slice());
+    // an even number of bytes is completed by a byte 00
+    let mut two: ArrayVec<Triplet, 64> = ArrayVec::new();
+    writer.write(&[0x21, 0x41], &mut two);
+    let start = read_triplet([0xFF, 0x42, 0x21]);
+    assert!(rt; two.as_slice() == [start, read_triplet([0xFE, 0x41, 0x00])].as_slice());
+    let mut three: ArrayVec<Triplet, 64> = ArrayVec::new();
+    writer.write(&[0x21, 0x41, 0x22], &mut three);
+    let start = read_triplet([0xFF, 0x82, 0x21]);
+    let more = read_triplet([0xFE, 0x41, 0x22]);
+    assert!(rt; three.as_slice() == [start, more].as_slice());
+    let mut four: ArrayVec<Triplet, 64> = ArrayVec::new();
+    writer.write(&[0x21, 0x41, 0x22, 0x42], &mut four);
+    let start = read_triplet([0xFF, 0xC3, 0x21]);
+    let last = read_triplet([0xFE, 0x42, 0x00]);
+    assert!(rt; four.as_slice() == [start, more, last].as_slice());
+    let mut again: ArrayVec<Triplet, 64> = ArrayVec::new();
+    writer.write(&[0x21], &mut again);
+    assert!(rt; again.as_slice() == one.as_slice());
 }
 
 #[test]
