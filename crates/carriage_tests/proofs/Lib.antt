@@ -1,3 +1,2 @@
-mod EverySection
 pub mod WordExamples
 pub mod ServiceExamples

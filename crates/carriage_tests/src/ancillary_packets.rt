@@ -1,152 +1,105 @@
-mod reading;
-mod whole;
+ghost use Rattle.std.specs.Prelude.{None};
 
-use anc_words::write_packet;
+use crate::distribution_packets::WITHOUT_CAPTIONS;
+use anc_words::{CaptionPacket, WordPart, WordReader, write_packet};
 use arrayvec::ArrayVec;
+use cc_base::{Refusal, Resume, Upward, Why};
 
-// The bytes of words, the high byte of each first.
-fn bytes_of(pieces: &[&[u16]]) -> ArrayVec<u8, 524> {
-    let mut bytes = ArrayVec::new();
-    for piece in pieces {
-        for word in piece.iter() {
-            let _ = bytes.try_extend_from_slice(&word.to_be_bytes());
-        }
-    }
-    bytes
-}
+// A layer that takes all parts.
+#[derive(Drop)]
+struct All;
 
-// The distribution packet of a frame at 29.97 without captions, with this counter and checksum; `one` are the bytes of
-// field 1.
-fn distribution_packet(counter: u8, one: [u8; 2], checksum: u8) -> ArrayVec<u8, 255> {
-    let [a, b] = one;
-    let mut bytes = ArrayVec::new();
-    let _ = bytes.try_extend_from_slice(&[0x96, 0x69, 0x49, 0x4F, 0x43, 0x00, counter]);
-    let _ = bytes.try_extend_from_slice(&[0x72, 0xF4, 0xFC, a, b, 0xFD, 0x80, 0x80]);
-    for _ in 0..18 {
-        let _ = bytes.try_extend_from_slice(&[0xFA, 0x00, 0x00]);
-    }
-    let _ = bytes.try_extend_from_slice(&[0x74, 0x00, counter, checksum]);
-    bytes
-}
+impl Upward<WordPart> for All {
+    ghost Took = { λ handed seen. Unit {0} };
 
-const FILLER: [u16; 3] = [0x2FA, 0x200, 0x200];
+    ghost verdict = { λ handed part. None };
 
-// The bytes of a caption packet of 80 words: the words before the eighteen fillers, and those behind them.
-fn caption_bytes(front: [u16; 21], back: [u16; 5]) -> ArrayVec<u8, 524> {
-    let fillers = [&FILLER[..]; 18];
-    let mut bytes = bytes_of(&[&front[..]]);
-    let _ = bytes.try_extend_from_slice(bytes_of(&fillers).as_slice());
-    let _ = bytes.try_extend_from_slice(bytes_of(&[&back[..]]).as_slice());
-    bytes
-}
-
-#[test]
-fn frames_without_captions_are_the_vectors(rt: HostRuntime) {
-    let vectors = [
-        (0, 0x200, 0xBF, [0x1BF, 0x1AB]),
-        (1, 0x101, 0xBD, [0x2BD, 0x2AB]),
-        (2, 0x102, 0xBB, [0x2BB, 0x2AB]),
-    ];
-    for (counter, word, checksum, [last, anc_checksum]) in vectors {
-        let front = [
-            0x000, 0x3FF, 0x3FF, 0x161, 0x101, 0x149, 0x296, 0x269, 0x149, 0x14F, 0x143, 0x200,
-            word, 0x272, 0x1F4, 0x2FC, 0x180, 0x180, 0x1FD, 0x180, 0x180,
-        ];
-        let back = [0x274, 0x200, word, last, anc_checksum];
-        let user = distribution_packet(counter, [0x80, 0x80], checksum);
-        let mut out = ArrayVec::new();
-        write_packet(0x61, 0x01, user.as_slice(), &mut out);
-        assert!(rt;
-            out.len() == 160 && out.as_slice() == caption_bytes(front, back).as_slice(),
-            "at {counter}"
-        );
+    fn part(&mut self, _part: WordPart) -> Result<(), Why> {
+        Ok(())
     }
 }
 
-#[test]
-fn a_frame_with_a_code_is_the_vector(rt: HostRuntime) {
-    let front = [
-        0x000, 0x3FF, 0x3FF, 0x161, 0x101, 0x149, 0x296, 0x269, 0x149, 0x14F, 0x143, 0x200, 0x200,
-        0x272, 0x1F4, 0x2FC, 0x194, 0x120, 0x1FD, 0x180, 0x180,
-    ];
-    let back = [0x274, 0x200, 0x200, 0x10B, 0x2AB];
-    let user = distribution_packet(0, [0x94, 0x20], 0x0B);
-    let mut out = ArrayVec::new();
-    write_packet(0x61, 0x01, user.as_slice(), &mut out);
-    assert!(rt; out.as_slice() == caption_bytes(front, back).as_slice());
+// The size of the packet at the front, the number of its user bytes, and these in front of bytes AA.
+fn found(bytes: &[u8]) -> Option<(usize, usize, [u8; 255])> {
+    let packet = CaptionPacket::at_front(bytes)?;
+    let mut out = [0xAA; 255];
+    let many = packet.user_bytes(&mut out);
+    Some((packet.size(), many, out))
 }
 
+// The fewest and the most user words, which no distribution packet has: 161 + 101 + 200 is 062 modulo 200, and 161 + 101 + 256 * FF is 162.
 #[test]
-fn a_packet_of_another_kind_is_the_vector(rt: HostRuntime) {
-    let mut out = ArrayVec::new();
-    write_packet(0x61, 0x02, &[0x00], &mut out);
-    let words = [0x000, 0x3FF, 0x3FF, 0x161, 0x102, 0x101, 0x200, 0x164];
-    assert!(rt; out.as_slice() == bytes_of(&[&words[..]]).as_slice());
-}
-
-#[test]
-fn a_packet_may_be_empty(rt: HostRuntime) {
-    let mut out = ArrayVec::new();
-    write_packet(0x61, 0x01, &[], &mut out);
-    let bytes = [
+fn an_empty_packet_and_a_full_one_are_written_and_found(rt: HostRuntime) {
+    let mut empty = ArrayVec::new();
+    write_packet(0x61, 0x01, &[], &mut empty);
+    let words: &[u8] = &[
         0x00, 0x00, 0x03, 0xFF, 0x03, 0xFF, 0x01, 0x61, 0x01, 0x01, 0x02, 0x00, 0x02, 0x62,
     ];
-    assert!(rt; out.as_slice() == &bytes[..]);
+    assert!(rt; empty.as_slice() == words && found(&empty) == Some((14, 0, [0xAA; 255])));
+    let mut full = ArrayVec::new();
+    write_packet(0x61, 0x01, &[0xFF; 255], &mut full);
+    assert!(rt;
+        full.len() == 524
+            && full.as_slice().ends_with(&[0x02, 0xFF, 0x01, 0x62])
+            && found(&full) == Some((524, 255, [0xFF; 255]))
+    );
 }
 
 #[test]
-fn a_packet_of_255_user_words_is_full(rt: HostRuntime) {
-    let mut out = ArrayVec::new();
-    write_packet(0x61, 0x01, &[0xFF; 255], &mut out);
-    let front = [0x000, 0x3FF, 0x3FF, 0x161, 0x101, 0x2FF];
-    // 0x161 + 0x101 + 256 * 0xFF is 0x162 modulo 0x200
-    let words: [&[u16]; 3] = [&front, &[0x2FF; 255], &[0x162]];
-    assert!(rt; out.is_full() && out.as_slice() == bytes_of(&words).as_slice());
+fn a_packet_with_a_flipped_bit_is_not_found(rt: HostRuntime) {
+    let mut packet = ArrayVec::new();
+    write_packet(0x61, 0x01, &WITHOUT_CAPTIONS, &mut packet);
+    assert!(rt; packet.len() == 160 && CaptionPacket::at_front(&packet).is_some());
+    for at in 0..160 {
+        for bit in [1u8, 2, 4, 8, 16, 32, 64, 128] {
+            if let Some(byte) = packet.get_mut(at) {
+                *byte ^= bit;
+            }
+            assert!(rt;
+                CaptionPacket::at_front(&packet).is_none(),
+                "byte {at}, bit {bit}"
+            );
+            if let Some(byte) = packet.get_mut(at) {
+                *byte ^= bit;
+            }
+        }
+    }
+    assert!(rt; CaptionPacket::at_front(&packet).is_some());
 }
 
-// The bytes 1 to 16 and their 8-bit words: bit 8 where a byte has an odd number of ones, else bit 9.
-const BYTES: [u8; 16] = [1, 2, 3, 4, 5, 6, 7, 8, 9, 10, 11, 12, 13, 14, 15, 16];
-
-const WORDS: [u16; 16] = [
-    0x101, 0x102, 0x203, 0x104, 0x205, 0x206, 0x107, 0x108, 0x209, 0x20A, 0x10B, 0x20C, 0x10D,
-    0x10E, 0x20F, 0x110,
-];
-
 #[test]
-fn user_words_are_written_around_each_eight(rt: HostRuntime) {
-    // The checksum words modulo 0x200, of DID and SDID, the count, the bytes 1, 2 .. and 0x100 for each odd one:
-    // 0: 0x062 + 0x000 + 0 + 0 * 0x100 = 0x062
-    // 7: 0x062 + 0x107 + 28 + 4 * 0x100 = 0x185 (1, 2, 4 and 7 are odd)
-    // 8: 0x062 + 0x108 + 36 + 5 * 0x100 = 0x08E (and 8)
-    // 9: 0x062 + 0x009 + 45 + 5 * 0x100 = 0x198
-    // 15: 0x062 + 0x00F + 120 + 8 * 0x100 = 0x0E9 (and 11, 13 and 14)
-    // 16: 0x062 + 0x110 + 136 + 9 * 0x100 = 0x0FA (and 16)
-    let rows = [
-        (0usize, 0x200, 0x262),
-        (7, 0x107, 0x185),
-        (8, 0x108, 0x28E),
-        (9, 0x209, 0x198),
-        (15, 0x20F, 0x2E9),
-        (16, 0x110, 0x2FA),
-    ];
-    for (many, count, checksum) in rows {
-        let mut out = ArrayVec::new();
-        write_packet(0x61, 0x01, &BYTES[..many.min(16)], &mut out);
-        let front = [0x000, 0x3FF, 0x3FF, 0x161, 0x101, count];
-        let want = bytes_of(&[&front[..], &WORDS[..many.min(16)], &[checksum]]);
-        assert!(rt; out.as_slice() == want.as_slice(), "{many} bytes");
+fn what_stands_behind_the_user_bytes_stays(rt: HostRuntime) {
+    let mut packet = ArrayVec::new();
+    write_packet(0x61, 0x01, &WITHOUT_CAPTIONS, &mut packet);
+    match found(&packet) {
+        Some((160, 73, out)) => {
+            assert!(rt;
+                &out[..73] == WITHOUT_CAPTIONS.as_slice() && &out[73..] == [0xAA; 182].as_slice()
+            )
+        }
+        _ => panic!(&rt; "no such packet"),
     }
 }
 
 #[test]
-fn the_last_words_stand_behind_all_eights(rt: HostRuntime) {
-    let mut user = ArrayVec::<u8, 255>::new();
-    for byte in 1..=0xFFu8 {
-        let _ = user.try_push(byte);
+fn a_reader_goes_on_behind_a_packet_that_it_passed_over(rt: HostRuntime) {
+    let mut packet = ArrayVec::new();
+    write_packet(0x61, 0x01, &WITHOUT_CAPTIONS, &mut packet);
+    let mut reader = WordReader::new();
+    assert!(rt; size_of::<WordReader>() <= 96 && reader.is_closed());
+    for _ in 0..2 {
+        match CaptionPacket::at_front(&packet) {
+            Some(whole) => reader.pass_over(&whole),
+            None => panic!(&rt; "no packet"),
+        }
     }
-    let mut out = ArrayVec::new();
-    write_packet(0x61, 0x01, user.as_slice(), &mut out);
-    // The words of FC to FF, and 0x062 + 0x0FF + 255 * 256 / 2 + 128 * 0x100, which is 0x0E1 modulo 0x200
-    let last = bytes_of(&[&[0x2FC, 0x1FD, 0x1FE, 0x2FF, 0x2E1][..]]);
-    assert!(rt; out.len() == 524 && out.as_slice().ends_with(last.as_slice()));
+    assert!(rt; reader.is_closed());
+    let answer = reader.feed(&[0x00, 0x00, 0x03], &mut All);
+    assert!(rt; answer.is_ok() && !reader.is_closed());
+    let want = Err(Refusal {
+        place: 322,
+        why: Why::Flag,
+    });
+    assert!(rt; reader.feed(&[0xFE], &mut All) == want);
+    assert!(rt; !reader.is_closed() && reader.finish() == want);
 }

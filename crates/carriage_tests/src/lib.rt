@@ -1,17 +1,11 @@
-//! Tests of what carries captions: triplets, distribution packets, ancillary packets, and SCC and MCC files. Worked examples of the
-//! definitions of words files are laws, functions without a body.
+//! Tests of what carries captions, where only a library's call can show it: triplets, distribution packets, ancillary packets, time codes, and
+//! SCC and MCC files. Worked examples of the definitions of words files are laws, functions without a body.
 #![tactic(auto)]
 
 #[cfg(test)]
 mod ancillary_packets;
 #[cfg(test)]
 mod distribution_packets;
-#[cfg(test)]
-mod inserted_triplets;
-#[cfg(test)]
-mod missing_frames;
-#[cfg(test)]
-mod packet_lines;
 #[cfg(test)]
 mod packets_at_times;
 #[cfg(test)]
