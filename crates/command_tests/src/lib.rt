@@ -1,8 +1,6 @@
-//! Tests of the commands, of captions as streams, and of runs over memory with their reports.
+//! Tests of captions as streams, and of runs over memory with their reports.
 #![tactic(auto)]
 
-#[cfg(test)]
-mod mcc_runs;
 #[cfg(test)]
 mod reports;
 #[cfg(test)]

@@ -3,7 +3,6 @@ use command_base::{Place, Status};
 use findings::{Finding, Kind45, Misfit, MisfitKind, Which};
 use line21_codes::Chan;
 use reported_runs::{Command, Report, TEXT, report_of, run_in_memory};
-use std::process::Abort;
 
 /// A report with no number and no line.
 const NOTHING: Report = Report {
@@ -171,30 +170,28 @@ fn wrote(written: u64) -> Report {
     Report { written, ..NOTHING }
 }
 
-/// That a report tells these numbers and this line, behind which its text is zeros.
-fn tells(rt: &impl Abort, report: Report, numbers: Report, line: &str) {
-    let length = report.text.iter().filter(|byte| **byte != 0).count();
-    assert!(rt;
-        report.text.starts_with(line.as_bytes()) && length == line.len(),
-        "{line}"
-    );
-    let text = [0; TEXT];
-    let told = Report { text, ..report };
-    assert!(rt; told == numbers, "{line}");
+/// The text of a line: it, and behind it zeros.
+fn text_of(line: &str) -> [u8; TEXT] {
+    let bytes = line.as_bytes();
+    let length = bytes.len().min(TEXT);
+    let mut text = [0; TEXT];
+    text[..length].copy_from_slice(&bytes[..length]);
+    text
 }
 
 #[test]
 fn a_status_is_told_with_its_number(rt: HostRuntime) {
     for &(answer, [status, limit, cue, packet, frame], line) in STATUSES {
-        let numbers = Report {
+        let report = Report {
             status,
             limit,
             cue,
             packet,
             frame,
+            text: text_of(line),
             ..NOTHING
         };
-        tells(&rt, report_of(answer, 0), numbers, line);
+        assert!(rt; report_of(answer, 0) == report);
     }
 }
 
@@ -214,22 +211,23 @@ fn a_malformed_input_is_told_with_its_place(rt: HostRuntime) {
             "malformed at record 2 field 5: NoCode\n",
         ),
     ] {
-        let numbers = Report {
+        let report = Report {
             status: 6,
             why,
             rec,
             field,
             place,
+            text: text_of(line),
             ..NOTHING
         };
-        tells(&rt, report_of(answer, 0), numbers, line);
+        assert!(rt; report_of(answer, 0) == report);
     }
 }
 
 #[test]
 fn a_finding_is_told_with_what_was_seen(rt: HostRuntime) {
     for &(kind, [why, channel, service, expected, seen], line) in FINDINGS {
-        let numbers = Report {
+        let report = Report {
             status: 9,
             frame: 3,
             why,
@@ -237,35 +235,27 @@ fn a_finding_is_told_with_what_was_seen(rt: HostRuntime) {
             service,
             expected,
             seen,
+            text: text_of(line),
             ..NOTHING
         };
-        tells(
-            &rt,
-            report_of(Status::Differs(Finding { frame: 3, kind }), 0),
-            numbers,
-            line,
-        );
+        assert!(rt; report_of(Status::Differs(Finding { frame: 3, kind }), 0) == report);
     }
 }
 
 #[test]
 fn a_misfit_is_told_with_what_was_seen(rt: HostRuntime) {
     for &(kind, [misfit, channel, service, seen], line) in MISFITS {
-        let numbers = Report {
+        let report = Report {
             status: 13,
             frame: 3,
             misfit,
             channel,
             service,
             seen,
+            text: text_of(line),
             ..NOTHING
         };
-        tells(
-            &rt,
-            report_of(Status::Misfit(Misfit { frame: 3, kind }), 0),
-            numbers,
-            line,
-        );
+        assert!(rt; report_of(Status::Misfit(Misfit { frame: 3, kind }), 0) == report);
     }
 }
 
@@ -283,15 +273,15 @@ fn a_broken_rule_is_told_with_its_cues(rt: HostRuntime) {
             "rule Overlap: cue 2 and cue 1\n",
         ),
     ] {
-        let report = run_in_memory(rt.alloc(), Command::Cues, list, &[], &mut []);
-        let numbers = Report {
+        let report = Report {
             status: 7,
             why,
             cue,
             other,
+            text: text_of(line),
             ..NOTHING
         };
-        tells(&rt, report, numbers, line);
+        assert!(rt; run_in_memory(rt.alloc(), Command::Cues, list, &[], &mut []) == report);
     }
 }
 
@@ -300,14 +290,15 @@ fn a_run_fills_the_front_of_its_output(rt: HostRuntime) {
     let alloc = rt.alloc();
     let mut out = [0xAA; 20];
     let report = run_in_memory(alloc, Command::Cues, LIST, &[], &mut out);
-    tells(&rt, report, wrote(18), "");
+    assert!(rt; report == wrote(18));
     assert!(rt; out == *b"ccsuite,2,29.97,1\n\xAA\xAA");
     let report = run_in_memory(alloc, Command::Build, LIST, &[], &mut out);
-    let numbers = Report {
+    let failed = Report {
         status: 3,
+        text: text_of("write fault\n"),
         ..NOTHING
     };
-    tells(&rt, report, numbers, "write fault\n");
+    assert!(rt; report == failed);
     assert!(rt; out == *b"ccsuite,2,29.97,1\n\xAA\xAA");
 }
 
@@ -316,19 +307,19 @@ fn a_run_reads_its_side_file(rt: HostRuntime) {
     let alloc = rt.alloc();
     let mut words = [0; 160];
     let report = run_in_memory(alloc, Command::Build, LIST, &[], &mut words);
-    tells(&rt, report, wrote(160), "");
+    assert!(rt; report == wrote(160));
     let mut out = [0xAA; 4];
     let report = run_in_memory(alloc, Command::Verify, &words, LIST, &mut out);
-    tells(&rt, report, wrote(3), "");
+    assert!(rt; report == wrote(3));
     assert!(rt; out == *b"ok\n\xAA");
     let report = run_in_memory(alloc, Command::Verify, &words, LIST_AT_30, &mut out);
-    let numbers = Report {
+    let differs = Report {
         status: 9,
         why: 44,
         expected: 5,
         seen: 4,
+        text: text_of("differs at frame 0: WrongRate expected 5 seen 4\n"),
         ..NOTHING
     };
-    let line = "differs at frame 0: WrongRate expected 5 seen 4\n";
-    tells(&rt, report, numbers, line);
+    assert!(rt; report == differs);
 }

@@ -43,7 +43,7 @@ fn what_changed_is_told_once(rt: HostRuntime) -> Result<(), Fail> {
     for frame in 0..8 {
         let mut words = ArrayVec::new();
         assert!(rt; building.next(&mut words));
-        assert!(rt; receiving.feed(&words) == Ok(FRAME), "{frame}");
+        assert!(rt; receiving.feed(&words) == Ok(FRAME));
     }
     let mut sink = MemorySink::new(alloc, 100, Vec::new(alloc))?;
     assert!(rt; receiving.put_changes(&mut sink) == Put::Done);
