@@ -1,8 +1,11 @@
 //! Lanes of a field that no list has: with an event in slot 0, and beyond the frames of a list.
 
-use lanes::{FieldChunk, FieldLane, PlanFault};
+ghost use Rattle.std.specs.Prelude.{◌≡◌, ◌+◌, ◌^◌, ◌<◌, length};
+
+use lanes::{FieldChunk, FieldLane, PlacedField, PlanFault};
 use line21_author::{Event, Unit};
 use line21_codes::Pair;
+use std::process::Abort;
 use std::test::Fail;
 
 const NULL: Pair = Pair { a: 0x80, b: 0x80 };
@@ -39,6 +42,16 @@ macro_rules! event {
     };
 }
 
+// The next pairs of the plan are these.
+fn gives(rt: &impl Abort, lane: &mut PlacedField, pairs: &[Pair])
+    requires { lane.old.slot + length pairs.now < 2 ^ 32 }
+    ensures { lane.new.slot ≡ lane.old.slot + length pairs.now }
+{
+    for pair in pairs {
+        assert!(rt; lane.next() == *pair);
+    }
+}
+
 #[test]
 fn a_unit_waits_for_its_load(rt: HostRuntime) -> Result<(), Fail> {
     let chunks = vec![in rt.alloc();
@@ -48,17 +61,11 @@ fn a_unit_waits_for_its_load(rt: HostRuntime) -> Result<(), Fail> {
     let events = vec![in rt.alloc(); event!(EDM, 0)]?;
     let lane = FieldLane { chunks, events };
     let mut placed = lane.place(rt.alloc()).ok().ok_or("both cues have room")?;
-    let sent = [
-        placed.next(),
-        placed.next(),
-        placed.next(),
-        placed.next(),
-        placed.next(),
-        placed.next(),
-        placed.next(),
-        placed.next(),
-    ];
-    assert!(rt; sent.as_slice() == [EDM, EDM, HI, NULL, NULL, RCL, RCL, NULL].as_slice());
+    gives(
+        &rt,
+        &mut placed,
+        &[EDM, EDM, HI, NULL, NULL, RCL, RCL, NULL],
+    );
     Ok(())
 }
 
