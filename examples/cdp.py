@@ -2,39 +2,64 @@
 """Distribution packets (SMPTE ST 334-2) out of a words file, and back: cdp.py from-words | to-words
 
 `from-words` writes the distribution packet of each ancillary packet 61/01, back to back, and reads past other packets. It is for words that
-`ccsuite decode` answers with status 0: it tries nothing. `to-words` puts each distribution packet into an ancillary packet 61/01.
+`ccsuite decode` answers with status 0: it tries nothing but that the last packet is whole. `to-words` puts each distribution packet into an
+ancillary packet 61/01. Both go from packet to packet, so they stand in a pipe that lives on.
 """
 
+import signal
 import sys
 
 
+# Of a byte as a word of ten bits: bit 8, which is even parity, and the two high bits, of which bit 9 is the inverse of bit 8.
+PARITY = bytes(it.bit_count() % 2 for it in range(256))
+HIGH = bytes(1 if it.bit_count() % 2 else 2 for it in range(256))
+
+
+def take(file, size):
+    data = file.read(size)
+    if len(data) < size:
+        sys.exit("the last packet isn't whole")
+    return data
+
+
 def from_words(words):
-    values = [int.from_bytes(words[it:it + 2], "big") for it in range(0, len(words), 2)]
-    packets = b""
-    while values:
-        kind, count = [it & 0xFF for it in values[3:5]], values[5] & 0xFF
-        if kind == [0x61, 0x01]:
-            packets += bytes(it & 0xFF for it in values[6:6 + count])
-        values = values[7 + count:]
-    return packets
-
-
-def word_of(byte):
-    """The byte as a word of ten bits: bit 8 is even parity, and bit 9 its inverse."""
-    parity = byte.bit_count() % 2
-    return byte | parity << 8 | (1 - parity) << 9
+    """The distribution packets of a file of words, one after the other."""
+    while start := words.read(2):
+        head = start + take(words, 10)
+        kind, count = (head[7], head[9]), head[11]
+        body = take(words, 2 * count + 2)
+        if kind == (0x61, 0x01):
+            yield body[1:-2:2]
 
 
 def to_words(packets):
-    words = []
-    while packets:
-        packet, packets = packets[:packets[2]], packets[packets[2]:]
-        body = [word_of(it) for it in (0x61, 0x01, len(packet), *packet)]
-        checksum = sum(it & 0x1FF for it in body) & 0x1FF
-        words += [0x000, 0x3FF, 0x3FF, *body, checksum | (~checksum << 1 & 0x200)]
-    return b"".join(it.to_bytes(2, "big") for it in words)
+    """The words of each distribution packet of a file of them."""
+    while start := packets.read(2):
+        size = take(packets, 1)
+        if start != b"\x96\x69" or size[0] < 3:
+            sys.exit("a distribution packet begins with 96 69 and its length")
+        yield ancillary_of(start + size + take(packets, size[0] - 3))
+
+
+def ancillary_of(packet):
+    """The ancillary packet that carries a distribution packet."""
+    body = bytes((0x61, 0x01, len(packet))) + packet
+    words = bytearray(2 * len(body))
+    words[0::2], words[1::2] = body.translate(HIGH), body
+    checksum = (sum(body) + 256 * sum(body.translate(PARITY))) & 0x1FF
+    checksum |= ~checksum << 1 & 0x200
+    return b"\x00\x00\x03\xff\x03\xff" + words + checksum.to_bytes(2, "big")
+
+
+def main():
+    convert = {"from-words": from_words, "to-words": to_words}.get(" ".join(sys.argv[1:]))
+    if convert is None:
+        sys.exit("usage: cdp.py from-words | to-words")
+    signal.signal(signal.SIGPIPE, signal.SIG_DFL)
+    for packet in convert(sys.stdin.buffer):
+        sys.stdout.buffer.write(packet)
+        sys.stdout.buffer.flush()
 
 
 if __name__ == "__main__":
-    convert = {"from-words": from_words, "to-words": to_words}[sys.argv[1]]
-    sys.stdout.buffer.write(convert(sys.stdin.buffer.read()))
+    main()
