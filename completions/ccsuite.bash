@@ -1,9 +1,11 @@
-# Completions of ccsuite for bash: the commands, and files for their cue lists; numbers and times are left to the user.
+# Completions of ccsuite for bash: the commands, and files for their cue lists and behind < and >; numbers and times are left to the user.
 
 _ccsuite() {
     local word=${COMP_WORDS[COMP_CWORD]}
     COMPREPLY=()
-    if ((COMP_CWORD == 1)); then
+    if [[ ${COMP_WORDS[COMP_CWORD - 1]} == *[\<\>]* ]]; then
+        compopt -o default 2> /dev/null
+    elif ((COMP_CWORD == 1)); then
         COMPREPLY=($(compgen -W 'pairs build cues decode show conceal xds-show convert verify insert import export import-mcc export-mcc load dual xds' -- "$word"))
     elif ((COMP_CWORD == 2)) && [[ ${COMP_WORDS[1]} == @(verify|insert|dual|xds) ]]; then
         compopt -o filenames 2> /dev/null

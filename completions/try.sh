@@ -1,13 +1,15 @@
 #!/usr/bin/env bash
 # Tries the completions that lie under a prefix, by running each shell that is there: try.sh PREFIX
 #
-# A shell is given the start of a command line, and must offer exactly the words that follow.
+# A shell is given the start of a command line, and must offer exactly the words that follow. Behind `<` it offers files: in bash, where a program's
+# own completions stand in the way of them, a line is typed in a terminal.
 prefix=$1
+here=$(realpath "$(dirname "$0")")
 folder=$(mktemp -d)
 trap 'rm -rf "$folder"' EXIT
 cd "$folder" || exit 1
 # Files that a completion of files would offer. `build` is a folder, since its name is a command's too.
-touch list.csv
+echo 'a list' > list.csv
 mkdir build
 failed=0
 
@@ -18,6 +20,17 @@ offers() {
     wanted=$(xargs -n 1 <<< "$3" | sort | xargs)
     if [ "$got" != "$wanted" ]; then
         echo "$1 offers '$got' and not '$wanted' behind '$2'"
+        failed=1
+    fi
+}
+
+# reads LINE WANTED: with a Tab behind LINE the program reads WANTED, in bash.
+reads() {
+    local got
+    command -v python3 > /dev/null || return
+    got=$("$here/type.py" "$prefix/share/bash-completion/completions/ccsuite" "$1"$'\t')
+    if [ "$got" != "$2" ]; then
+        echo "bash: behind '$1' and a Tab: $got"
         failed=1
     fi
 }
@@ -83,6 +96,14 @@ for shell in bash zsh fish; do
     offers "$shell" 'ccsuite export-mcc 6' '60 60DF'
     offers "$shell" 'ccsuite export-mcc 60 ' ''
     offers "$shell" 'ccsuite xds l' 'list.csv'
+    if [ "$shell" = bash ]; then
+        reads 'ccsuite build < l' 'a list'
+        reads 'ccsuite verify list.csv < l' 'a list'
+        reads 'ccsuite < l' 'a list'
+    else
+        offers "$shell" 'ccsuite build < l' 'list.csv'
+        offers "$shell" 'ccsuite verify list.csv < l' 'list.csv'
+    fi
     [ "$failed" = 0 ] && echo "completions of $shell: as they should be"
 done
 exit "$failed"

@@ -7,8 +7,8 @@ ST 436). Where a picture has no captions, its frame has none. Triplets that don'
 
 `into` writes VIDEO, in the same kind of file (TS, MP4, MOV or MXF), with the captions of words: frame f of these goes to picture f of H.264 or
 MPEG-2, as A/53, in place of what it has. No picture and no sound is coded anew. Debian's GStreamer reads and writes the file (python3-gst-1.0,
-gstreamer1.0-plugins-base, -good and -bad); `ccsuite decode` tries the words first. They have the video's rate, and no more frames than it has
-pictures. Nothing is written where something is wrong; what that is stands in standard error.
+gstreamer1.0-plugins-base, -good and -bad). `ccsuite decode` tries the words before, and ffmpeg reads the captions of what was written. The words
+have the video's rate, and no more frames than it has pictures. If something is wrong, standard error says what, and nothing is written.
 """
 
 import fractions
@@ -399,6 +399,9 @@ def into(file):
         written = pathlib.Path(folder, "written")
         passage = Passage(file, lambda time, data: with_captions(data, captions[numbers[time]]), (muxer, str(written)))
         passage.run()
+        for number, (seen, wanted) in enumerate(itertools.zip_longest(picture_captions(written), captions)):
+            if seen != wanted:
+                refuse(f"ffmpeg reads other captions in picture {number} of what was written")
         with open(written, "rb") as result:
             shutil.copyfileobj(result, sys.stdout.buffer)
     rest = "".join(f"; {it} is left out" for it in passage.left_out)
