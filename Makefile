@@ -5,30 +5,51 @@
 # make edits    tries the edits of edits/ too, of each crate, which takes hours: each must be refused; with CRATE=name those of one crate
 # make bench    measures each command, and cue lists, the receiver's frames, pairs and bytes of services by themselves, and puts the rows into bench/README.md
 # make lib      proves the library for C and builds it: build/libccsuite.a, in one file with what it needs of the kit, and build/libccsuite.so
-# make install  puts the program, the library with its header, the man page, completions, documents, examples and viewer under PREFIX
-#               (/usr/local), behind DESTDIR if it is set; with LIBRARY= all but the library
+# make install  puts the program, the library with its header, the man pages, completions, documents, examples and viewer under PREFIX
+#               (/usr/local), in DESTDIR if it is set; with LIBRARY= all but the library. bindir, libdir, includedir, datadir, mandir and docdir
+#               can be set, each by itself, as the GNU standards have them
 # make uninstall      takes away what install puts
 # make faults   makes memory, reads and writes fail at each place of short runs, and compares how each run ends (needs strace)
 # make check-install  tries both in a folder of its own: the files, the man page, each shell's completions
-# make deb      builds the Debian package of what install puts: build/ccsuite_VERSION_ARCHITECTURE.deb
-# make check-deb      tries it in a folder of its own: lintian, what is installed, the program, and that nothing is left when it goes
+# make deb      builds the Debian packages of what install puts: ccsuite, libccsuite0 and libccsuite-dev, build/NAME_VERSION_ARCHITECTURE.deb
+# make check-deb      tries them in a folder of their own: lintian, what is installed, the program, and that nothing is left when they go
 # make check-lib      tries the library by C programs: against the program, byte for byte, with sanitizers, refused memory, threads (needs gcc)
 # make scale    tries an archive of 50 parts, two of them with damage, by GNU parallel and by a one-node Slurm
-# make try      runs the commands of the manual, the cookbook and the man page and compares what they print; tries subtitles.py, and the viewer in a Chromium
+# make try      runs the commands of the manual, the cookbook and the man page and compares what they print; tries subtitles.py, video.py, and the
+#               viewer in a Chromium
+# make help     prints these lines
 
 PREFIX ?= /usr/local
+prefix ?= $(PREFIX)
+exec_prefix ?= $(prefix)
+bindir ?= $(exec_prefix)/bin
+libdir ?= $(exec_prefix)/lib
+includedir ?= $(prefix)/include
+datarootdir ?= $(prefix)/share
+datadir ?= $(datarootdir)
+mandir ?= $(datarootdir)/man
+docdir ?= $(datarootdir)/doc/ccsuite
 # the program and the library that install puts
 PROGRAM ?= build/ccsuite
 LIBRARY ?= build/libccsuite.a build/libccsuite.so
-ROOT = $(DESTDIR)$(PREFIX)
-# where Debian's zsh looks: a package's completions stand apart from those of this machine's own programs
-ZSH = $(ROOT)/share/zsh/$(if $(filter /usr,$(PREFIX)),vendor-completions,site-functions)
+# where Debian's bash, zsh and fish look; a package's completions for zsh stand apart from those of this machine's own programs
+bashdir ?= $(datarootdir)/bash-completion/completions
+zshdir ?= $(datarootdir)/zsh/$(if $(filter /usr,$(prefix)),vendor-completions,site-functions)
+fishdir ?= $(datarootdir)/fish/vendor_completions.d
 DOCUMENTS = README.md docs/MANUAL.md docs/COOKBOOK.md docs/PROVED.md docs/GLOSSARY.md docs/SCALE.md
 EXAMPLES = $(wildcard examples/*.*)
+# the scripts that are programs of their own: video.py is ccsuite-video
+SCRIPTS = video cdp
+# a document as it is installed: it names the files where they are
+INSTALLED = sed -e 's|docs/\(MANUAL\|COOKBOOK\|PROVED\|GLOSSARY\|SCALE\)\.md|$(docdir)/\1.md|g' \
+    -e 's|viewer/viewer.html|$(datadir)/ccsuite/viewer.html|g' -e 's|library/ccsuite.h|$(includedir)/ccsuite.h|g' \
+    -e 's/`\(docs\/[A-Z]*\.md\|bench\/[A-Z]*\.md\|make [a-z -]*\)`/& of the source/g' -e '/^make [a-z]* *\#/s/$$/, in the source/' -e 's/@VERSION@/$(VERSION)/'
 # the kit that `rt` is of
 KIT = $(dir $(realpath $(shell command -v rt)))..
 # the version that the man page and the package tell
 VERSION := $(shell sed -n '1s/.*(\(.*\)).*/\1/p' package/changes)
+# the library's name as programs ask for it: another number where a program would have to be compiled anew
+SONAME := libccsuite.so.0
 DEB = build/ccsuite_$(VERSION)_$(shell dpkg --print-architecture).deb
 # how many crates are proved side by side
 JOBS ?= $(shell nproc)
@@ -58,8 +79,9 @@ build/libccsuite.a: $(SOURCES)
 	@mv build/library/libccsuite.a $@ && rm -r build/library
 
 build/libccsuite.so: build/libccsuite.a library/exports
-	@gcc -shared -o $@ -Wl,-soname,libccsuite.so -Wl,--version-script,library/exports -Wl,--no-undefined -Wl,--gc-sections \
+	@gcc -shared -o $@ -Wl,-soname,$(SONAME) -Wl,--version-script,library/exports -Wl,--no-undefined -Wl,--gc-sections \
 	    -Wl,--whole-archive $< -Wl,--no-whole-archive
+	@ln -sf libccsuite.so build/$(SONAME)
 
 demo:
 	@$(FIND_RT)
@@ -97,38 +119,57 @@ bench: build/ccsuite $(LIBRARY)
 	bench/library.sh
 	bench/table.py
 
+# $(call put_document,FILE,FOLDER)
+define put_document
+$(INSTALLED) $(1) | install -m 644 /dev/stdin $(DESTDIR)$(2)/$(notdir $(1))
+
+endef
+
+define put_library
+install -d $(DESTDIR)$(libdir)/pkgconfig $(DESTDIR)$(includedir) $(DESTDIR)$(docdir)/examples/c
+install -m 644 build/libccsuite.a $(DESTDIR)$(libdir)
+install -m 644 build/libccsuite.so $(DESTDIR)$(libdir)/$(SONAME).$(VERSION)
+ln -sf $(SONAME).$(VERSION) $(DESTDIR)$(libdir)/$(SONAME)
+ln -sf $(SONAME) $(DESTDIR)$(libdir)/libccsuite.so
+$(call put_document,library/ccsuite.h,$(includedir))
+sed 's|@PREFIX@|$(prefix)|; s|@LIBDIR@|$(libdir)|; s|@INCLUDEDIR@|$(includedir)|; s/@VERSION@/$(VERSION)/' library/ccsuite.pc \
+    | install -m 644 /dev/stdin $(DESTDIR)$(libdir)/pkgconfig/ccsuite.pc
+install -m 644 $(wildcard examples/c/*) $(DESTDIR)$(docdir)/examples/c
+
+endef
+
 install: $(PROGRAM) $(LIBRARY)
-	install -D -m 755 $(PROGRAM) $(ROOT)/bin/ccsuite
-	install -d $(ROOT)/share/man/man1
-	sed 's/@VERSION@/$(VERSION)/' man/ccsuite.1 | install -m 644 /dev/stdin $(ROOT)/share/man/man1/ccsuite.1
-	install -D -m 644 completions/ccsuite.bash $(ROOT)/share/bash-completion/completions/ccsuite
-	install -D -m 644 completions/_ccsuite $(ZSH)/_ccsuite
-	install -D -m 644 completions/ccsuite.fish $(ROOT)/share/fish/vendor_completions.d/ccsuite.fish
-	install -D -m 644 viewer/viewer.html $(ROOT)/share/ccsuite/viewer.html
-	install -d $(ROOT)/share/doc/ccsuite/examples
-	install -m 644 $(DOCUMENTS) $(ROOT)/share/doc/ccsuite
-	install -m 644 $(EXAMPLES) $(ROOT)/share/doc/ccsuite/examples
-	$(if $(LIBRARY),install -d $(ROOT)/lib/pkgconfig $(ROOT)/share/doc/ccsuite/examples/c)
-	$(if $(LIBRARY),install -m 644 $(LIBRARY) $(ROOT)/lib)
-	$(if $(LIBRARY),install -D -m 644 library/ccsuite.h $(ROOT)/include/ccsuite.h)
-	$(if $(LIBRARY),sed 's|@PREFIX@|$(PREFIX)|; s/@VERSION@/$(VERSION)/' library/ccsuite.pc | install -m 644 /dev/stdin $(ROOT)/lib/pkgconfig/ccsuite.pc)
-	$(if $(LIBRARY),install -m 644 $(wildcard examples/c/*) $(ROOT)/share/doc/ccsuite/examples/c)
+	install -D -m 755 $(PROGRAM) $(DESTDIR)$(bindir)/ccsuite
+	install -d $(DESTDIR)$(mandir)/man1 $(DESTDIR)$(datadir)/ccsuite $(DESTDIR)$(docdir)/examples
+	$(foreach page,$(wildcard man/*.1),$(call put_document,$(page),$(mandir)/man1))
+	$(foreach name,$(SCRIPTS),install -m 755 examples/$(name).py $(DESTDIR)$(datadir)/ccsuite/$(name).py && \
+	    ln -sfr $(DESTDIR)$(datadir)/ccsuite/$(name).py $(DESTDIR)$(bindir)/ccsuite-$(name) &&) :
+	install -D -m 644 completions/ccsuite.bash $(DESTDIR)$(bashdir)/ccsuite
+	install -D -m 644 completions/_ccsuite $(DESTDIR)$(zshdir)/_ccsuite
+	install -D -m 644 completions/ccsuite.fish $(DESTDIR)$(fishdir)/ccsuite.fish
+	install -m 644 viewer/viewer.html $(DESTDIR)$(datadir)/ccsuite/viewer.html
+	$(foreach document,$(DOCUMENTS),$(call put_document,$(document),$(docdir)))
+	install -m 644 package/copyright $(DESTDIR)$(docdir)
+	install -m 644 $(EXAMPLES) $(DESTDIR)$(docdir)/examples
+	$(if $(LIBRARY),$(put_library))
 
 uninstall:
-	rm -f $(ROOT)/bin/ccsuite $(ROOT)/share/man/man1/ccsuite.1 $(ROOT)/share/bash-completion/completions/ccsuite \
-	    $(ZSH)/_ccsuite $(ROOT)/share/fish/vendor_completions.d/ccsuite.fish \
-	    $(ROOT)/lib/libccsuite.a $(ROOT)/lib/libccsuite.so $(ROOT)/lib/pkgconfig/ccsuite.pc $(ROOT)/include/ccsuite.h
-	rm -rf $(ROOT)/share/doc/ccsuite $(ROOT)/share/ccsuite
+	rm -f $(DESTDIR)$(bindir)/ccsuite $(addprefix $(DESTDIR)$(bindir)/ccsuite-,$(SCRIPTS)) \
+	    $(addprefix $(DESTDIR)$(mandir)/man1/,$(notdir $(wildcard man/*.1))) \
+	    $(DESTDIR)$(bashdir)/ccsuite $(DESTDIR)$(zshdir)/_ccsuite $(DESTDIR)$(fishdir)/ccsuite.fish \
+	    $(DESTDIR)$(libdir)/libccsuite.a $(addprefix $(DESTDIR)$(libdir)/,libccsuite.so $(SONAME) $(SONAME).$(VERSION)) \
+	    $(DESTDIR)$(libdir)/pkgconfig/ccsuite.pc $(DESTDIR)$(includedir)/ccsuite.h
+	rm -rf $(DESTDIR)$(docdir) $(DESTDIR)$(datadir)/ccsuite
 
 check-install: $(PROGRAM) $(LIBRARY)
 	man/check_install.sh $(PROGRAM)
 
-deb: $(PROGRAM)
+deb: $(PROGRAM) $(LIBRARY)
 	@mkdir -p build
-	package/build.sh $(PROGRAM) $(DEB)
+	package/build.sh $(PROGRAM) $(DEB) $(LIBRARY)
 
 check-deb: deb
-	package/try.sh $(PROGRAM) $(DEB)
+	package/try.sh $(PROGRAM) $(DEB) $(LIBRARY)
 
 faults: $(PROGRAM)
 	faults/try.py $(PROGRAM)
@@ -140,6 +181,7 @@ try: $(PROGRAM) $(LIBRARY)
 	docs/try.py $(PROGRAM)
 	examples/c/try.sh $(PROGRAM)
 	docs/try_subtitles.py $(PROGRAM)
+	docs/try_video.py $(PROGRAM)
 	viewer/try.py $(PROGRAM)
 
 scale: $(PROGRAM)
@@ -148,4 +190,7 @@ scale: $(PROGRAM)
 clean:
 	rm -rf build crates/*/out
 
-.PHONY: all lib demo check edits check-lib bench install uninstall check-install deb check-deb faults try scale clean
+help:
+	@sed -n '/^# make/,/^$$/s/^# //p' Makefile
+
+.PHONY: all help lib demo check edits check-lib bench install uninstall check-install deb check-deb faults try scale clean

@@ -9,6 +9,7 @@ ffmpeg or Debian's python3-gst-1.0 isn't installed, nothing is tried.
 
 import os
 import pathlib
+import re
 import shutil
 import subprocess
 import sys
@@ -33,7 +34,8 @@ PROGRAMME = """\
 00:00:03,003 --> 00:00:08,008 THE COUNCIL VOTED LATE ON MONDAY / TO REOPEN THE NORTH BRIDGES.
 00:00:10,010 --> 00:00:15,015 ENGINEERS FOUND NO NEW CRACKS / (applause)
 """
-DOUBLE_RATE = "00:00:00,234 --> 00:00:00,667 HI\n"
+# The frames 14 to 40 at 59.94: 0.2336 and 0.6673 seconds. A time in TS is a 90,000th of a second, and ffmpeg rounds twice.
+DOUBLE_RATE = "00:00:00,234 --> 00:00:00,668 HI\n"
 
 
 def run(*words, **more):
@@ -41,7 +43,7 @@ def run(*words, **more):
 
 
 def ffmpeg(*words):
-    return run("nice", "ffmpeg", "-v", "error", "-y", *words)
+    return run("ffmpeg", "-v", "error", "-y", *words)
 
 
 def video(way, path, stdin=None):
@@ -68,11 +70,8 @@ def sums_of(path):
 def read_by_ffmpeg(path):
     """The captions that ffmpeg reads in a video, a line each."""
     blocks = ffmpeg("-f", "lavfi", "-i", f"movie={path}[out+subcc]", "-map", "0:1", "-f", "srt", "-").decode().strip().split("\n\n")
-    rows = [block.split("\n")[1:] for block in blocks]
-    plain = [[time, *(line.replace("\\h", " ") for line in text)] for time, *text in rows]
-    for part in ('<font face="Monospace">{\\an7}', "</font>", "<i>", "</i>"):
-        plain = [[line.replace(part, "") for line in row] for row in plain]
-    return "".join(f"{time} {' / '.join(line.strip() for line in text)}\n" for time, *text in plain)
+    rows = [re.sub(r"<.*?>|\{.*?\}|\\h|\r", "", block).split("\n") for block in blocks]
+    return "".join(f"{time} {' / '.join(text)}\n" for _, time, *text in rows)
 
 
 def words_of(folder, name):
@@ -100,7 +99,7 @@ def try_way(folder, name, rate, frames, pictures, kind, coder):
     (pictures, sound), (kept, heard) = sums_of(clip), sums_of(captioned)
     assert kept == pictures and sound.endswith(heard) and len(heard) >= 0.9 * len(sound), f"{name} {kind}: other pictures or other sound"
     wanted = {"programme": PROGRAMME, "double_rate": DOUBLE_RATE}.get(name)
-    assert wanted in (None, read_by_ffmpeg(captioned)), read_by_ffmpeg(captioned)
+    assert not wanted or read_by_ffmpeg(captioned) == wanted, read_by_ffmpeg(captioned)
     return captioned
 
 

@@ -1,4 +1,4 @@
-#!/usr/bin/env python3
+#!/usr/bin/python3
 """Distribution packets (SMPTE ST 334-2) out of a words file, and back: cdp.py from-words | to-words
 
 `from-words` writes the distribution packet of each ancillary packet 61/01, back to back, and reads past other packets. It is for words that

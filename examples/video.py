@@ -28,6 +28,7 @@ import gi
 gi.require_version("Gst", "1.0")
 from gi.repository import Gst  # noqa: E402
 
+sys.dont_write_bytecode = True
 from cdp import ancillary_of, from_words  # noqa: E402
 
 Gst.init(None)
