@@ -4,7 +4,8 @@
 The lists of examples/ are built and decoded by PROGRAM, of one of them frames are dropped for `conceal`, and viewer/windows.txt has a window of each
 kind. Each text is opened in the page, by the file field or by a drop; at each frame that changes, and the one before, the cells that are drawn are
 compared with the text, which is read here a second time. Positions, colours, keys, the line of time, the list of captions, lost frames, time codes,
-playing and what takes room are compared with values worked out by hand. PICTURE is written from the realistic programme.
+subtitles, searching, playing and what takes room are compared with values worked out by hand. Where ffmpeg is installed, a video each of whose pictures
+has a brightness of its own is opened too, and the picture below the captions is that of the frame. PICTURE is written from the realistic programme.
 """
 
 import base64
@@ -99,6 +100,63 @@ function listed() {
     [row.closest("table").dataset.name, ...[...row.cells].flatMap(textsOf), row.className]);
 }
 
+/** The time codes of frames, each at a rate, from a time code of frame 0 on. */
+function starts(wanted) {
+  const told = wanted.map(([rate, drop, start, frame]) => {
+    choose(rate, drop);
+    page.start.value = start;
+    page.start.dispatchEvent(new Event("input"));
+    goTo(frame);
+    return [page.code.textContent, listed()[0]?.[1], page.start.validity.valid];
+  });
+  page.start.value = "00:00:00:00";
+  page.start.dispatchEvent(new Event("input"));
+  return told;
+}
+
+/** The files that the list saves, each with its name. */
+async function saves() {
+  const [blobs, names, made] = [[], [], URL.createObjectURL];
+  URL.createObjectURL = blob => (blobs.push(blob), "about:blank");
+  HTMLAnchorElement.prototype.click = function () { names.push(this.download); };
+  for (const button of page.captions.querySelectorAll("button")) button.click();
+  URL.createObjectURL = made;
+  return Promise.all(blobs.map(async (blob, place) => [names[place], await blob.text()]));
+}
+
+/** What is searched: the texts that are left in the list, what is told of them, and where the key Enter leads to from frame 0, twice. */
+function searches(wanted) {
+  return wanted.map(text => {
+    page.search.value = text;
+    page.search.dispatchEvent(new Event("input"));
+    const left = [...page.captions.querySelectorAll("tr")].filter(it => !it.hidden).map(it => it.lastChild.textContent);
+    goTo(0);
+    return [left, page.found.textContent, key("Enter", page.search), key("Enter", page.search)];
+  });
+}
+
+/** Without a rate: the list, the frame's time code, and what takes room. */
+function unrated() {
+  choose("", true);
+  return [listed(), page.code.textContent, page.place.textContent, rooms()];
+}
+
+/** A video below the captions: at each frame the brightness of the picture, twice where it is gone to, and then while it plays, with the frame. */
+async function films({ film, frames }) {
+  const bytes = Uint8Array.from(atob(film), it => it.charCodeAt(0));
+  page.film.files = dropped(new File([bytes], "film.mp4", { type: "video/mp4" })).files;
+  page.film.dispatchEvent(new Event("change"));
+  const light = () => document.querySelector(".picture canvas")?.getContext("2d").getImageData(20, 20, 1, 1).data[1];
+  await new Promise(done => page.video.addEventListener("seeked", done, { once: true }));
+  const at = [];
+  for (const frame of frames) {
+    goTo(frame);
+    await new Promise(done => page.video.addEventListener("seeked", done, { once: true }));
+    at.push(light());
+  }
+  return { at, size: [page.video.videoWidth, page.video.videoHeight], fault: page.fault.textContent };
+}
+
 /** The time codes of frames, each at a rate. */
 function codes(wanted) {
   return wanted.map(([rate, drop, frame]) => {
@@ -161,6 +219,7 @@ function marks() {
 }
 
 async function tryText({ text, frames, drop, keys, more }) {
+  choose("29.97", true);
   const since = performance.now();
   await give(text, drop);
   const [took, at] = [performance.now() - since, []];
@@ -169,7 +228,7 @@ async function tryText({ text, frames, drop, keys, more }) {
     at.push(drawn());
   }
   const answer = { took, fault: page.fault.textContent, at, keys: keys.map(it => key(it)), marks: marks(), list: listed() };
-  if (more) answer.more = await { codes, clicks, plays, losses }[more[0]](more[1]);
+  if (more) answer.more = await { codes, starts, saves, searches, unrated, films, clicks, plays, losses }[more[0]](more[1]);
   return { ...answer, rooms: rooms() };
 }
 
@@ -444,6 +503,26 @@ CODES = [
     ("60", True, 215999, "00:59:59:59"), ("23.976", True, 1440, "00:01:00:00"), ("24", True, 86399, "00:59:59:23"),
     ("25", True, 90000, "01:00:00:00"), ("50", True, 49, "00:00:00:49"),
 ]
+# The same with the time code of frame 0, and whether it is one.
+STARTS = [
+    ("29.97", True, "01:00:00;00", 1800, "01:01:00;02", True), ("29.97", True, "00:59:59:29", 1, "01:00:00;00", True),
+    ("29.97", False, "00:59:59:29", 1, "01:00:00:00", True), ("29.97", True, "00:01:00;00", 1, "", False),
+    ("29.97", True, "00:10:00;00", 1800, "00:11:00;02", True), ("29.97", False, "00:01:00:00", 1, "00:01:00:01", True),
+    ("25", True, "10:00:00:00", 1500, "10:01:00:00", True), ("25", True, "23:59:59:24", 1, "00:00:00:00", True),
+    ("25", True, "10:00:00:25", 1, "", False), ("59.94", True, "00:01:00;03", 1, "", False), ("59.94", True, "00:01:00;04", 1, "00:01:00;05", True),
+    ("30", True, "24:00:00:00", 1, "", False), ("30", True, "9:00:00:00", 1, "", False),
+]
+# The subtitles of the realistic programme: a frame's time is its number times 1,001 / 30,000 seconds.
+SAVED = [
+    ["CC1.srt", "1\n00:00:03,003 --> 00:00:08,008\nTHE COUNCIL VOTED LATE ON MONDAY\nTO REOPEN THE NORTH BRIDGES.\n\n"
+                "2\n00:00:10,010 --> 00:00:15,015\nENGINEERS FOUND NO NEW CRACKS\n(applause)\n\n"],
+    ["CC3.srt", "1\n00:00:16,884 --> 00:00:18,252\n>> GOOD EVENING\n\n2\n00:00:18,252 --> 00:00:26,693\n>> GOOD EVENING\nAND WELCOME.\n\n"],
+]
+# What is searched in it: the texts that are left, what is told, and the frames that the key Enter leads to.
+SEARCHED = [
+    ("good", [">> GOOD EVENING", ">> GOOD EVENING / AND WELCOME."], "2 of 4", 506, 547), ("(APPL", ["ENGINEERS FOUND NO NEW CRACKS / (applause)"], "1 of 4", 300, 300),
+    ("xyz", [], "0 of 4", 0, 0), ("", [it[5] for it in CAPTIONS["programme.csv"]], "", 90, 300),
+]
 # A rate, the frame to play from, and how; and the frames that a second has.
 PLAYS = [("29.97", 0, "Space", 30000 / 1001), ("59.94", 100, "Space", 60000 / 1001), ("25", 200, "the button", 25)]
 
@@ -462,6 +541,7 @@ ROOMS = [
     (b"frame 7\nCC1 1\n15 0 white HI\n", ["controls", "dropping", "time", "shown", "captions"]),
     (HELLO, ["controls", "play", "dropping", "time", "shown", "captions"]),
 ]
+UNRATED = ["controls", "time", "shown", "captions"]
 ROOMS_AT_30 = ["controls", "play", "time", "shown", "captions"]
 
 
@@ -494,10 +574,40 @@ def check_hand(texts, ask):
     check_list("with lost frames", lost, LISTED_LOSSES)
     assert middle["keys"] == [it for _, it in ENDS_OF_IT], middle["keys"]
     print(f"{len(LOST_AT)} frames are lost, and told so; words from the middle of a programme are shown at their numbers")
+    _, starts, saves, searches, unrated = show([
+        ask(HELLO.replace(b"frames 30", b"frames 100000"), more=["starts", [it[:4] for it in STARTS]]), ask(texts["programme.csv"], more=["saves", None]),
+        ask(texts["programme.csv"], more=["searches", [it[0] for it in SEARCHED]]), ask(HELLO, more=["unrated", None]),
+    ])
+    told = [(code, valid) for code, _, valid in starts["more"]]
+    assert told == [it[4:] for it in STARTS], told
+    assert all((row != "7") == valid for _, row, valid in starts["more"]), starts["more"]
+    assert saves["more"] == SAVED, saves["more"]
+    assert [tuple(it) for it in searches["more"]] == [it[1:] for it in SEARCHED], searches["more"]
+    assert unrated["more"] == [[["CC1", "7", "20", "HI", "now"]], "", "of 30 frames; 2 change, the last one up to here is 7", UNRATED], unrated["more"]
+    print(f"{len(STARTS)} time codes of frame 0 are followed or refused; {len(SAVED)} files of subtitles are saved; {len(SEARCHED)} texts are searched")
     *rooms, at_30 = show([*(ask(text) for text, _ in ROOMS), ask(HELLO, more=["codes", [["30", True, 0]]])])
     wanted = [[], *(it for _, it in ROOMS), ROOMS_AT_30]
     assert [it["rooms"] for it in (*rooms, at_30)] == wanted, [it["rooms"] for it in (*rooms, at_30)]
     print(f"{len(wanted)} pages: what they don't use takes no room")
+
+
+def check_film(ask):
+    """A video of 60 pictures with B pictures: picture n has the brightness 16 + 3 n of luma, which is 1.164 times 3 n on a screen."""
+    if not shutil.which("ffmpeg"):
+        print("ffmpeg isn't installed: no video was opened")
+        return
+    with tempfile.TemporaryDirectory() as folder:
+        film = pathlib.Path(folder, "film.mp4")
+        pictures = ["-f", "lavfi", "-i", "color=size=64x48:rate=30000/1001,format=yuv420p,geq=lum='16+3*N':cb=128:cr=128", "-frames:v", "60"]
+        coder = ["-c:v", "libx264", "-qp", "4", "-x264-params", "b-adapt=0:bframes=3:keyint=30", film]
+        subprocess.run(["ffmpeg", "-v", "error", *pictures, *coder], check=True)
+        text = base64.b64encode(film.read_bytes()).decode()
+    frames = [0, 1, 2, 29, 30, 31, 58, 59, 12, 11, 10]
+    _, answer = show([ask(HELLO.replace(b"frames 30", b"frames 60"), more=["films", {"film": text, "frames": frames}])])
+    assert answer["more"]["size"] == [64, 48], answer["more"]
+    seen = [round(it / 1.164 / 3) for it in answer["more"]["at"]]
+    assert seen == frames, f"{seen} and not {frames}"
+    print(f"{len(frames)} frames have their pictures of a video below the captions")
 
 
 def check_long(ask):
@@ -529,11 +639,13 @@ def main():
             check_list(name, answer, CAPTIONS[name])
     check_unread(show([ask(text) for text, _, _ in UNREAD])[1:])
     check_hand(texts, ask)
+    check_film(ask)
     check_long(ask)
     if len(sys.argv) > 2:
         text = base64.b64encode(texts["programme.csv"]).decode()
-        script = f'open(Uint8Array.from(atob("{text}"), it => it.charCodeAt(0))); go(555);'
-        run_page(script, f"--screenshot={pathlib.Path(sys.argv[2]).resolve()}", "--window-size=1280,1000")
+        chosen = 'page.rate.value = "29.97"; page.start.value = "01:00:00;00";'
+        script = f'{chosen} open(Uint8Array.from(atob("{text}"), it => it.charCodeAt(0))); go(555);'
+        run_page(script, f"--screenshot={pathlib.Path(sys.argv[2]).resolve()}", "--window-size=1280,640")
 
 
 if __name__ == "__main__":
