@@ -42,8 +42,8 @@ EXAMPLES = $(wildcard examples/*.*)
 SCRIPTS = video cdp
 # a document as it is installed: it names the files where they are
 INSTALLED = sed -e 's|docs/\(MANUAL\|COOKBOOK\|PROVED\|GLOSSARY\|SCALE\)\.md|$(docdir)/\1.md|g' \
-    -e 's|viewer/viewer.html|$(datadir)/ccsuite/viewer.html|g' -e 's|library/ccsuite.h|$(includedir)/ccsuite.h|g' \
-    -e 's/`\(docs\/[A-Z]*\.md\|bench\/[A-Z]*\.md\|make [a-z -]*\)`/& of the source/g' -e '/^make [a-z]* *\#/s/$$/, in the source/' -e 's/@VERSION@/$(VERSION)/'
+    -e 's|\(\.\./\)*viewer/viewer\.\(html\|png\)|$(datadir)/ccsuite/viewer.\2|g' -e 's|library/ccsuite.h|$(includedir)/ccsuite.h|g' \
+    -e 's/`\(docs\/[A-Z]*\.md\|bench\/[A-Z]*\.md\|make [^`]*\)`/& of the source/g' -e '/^make [a-z]* *\#/s/$$/, in the source/' -e 's/@VERSION@/$(VERSION)/'
 # the kit that `rt` is of
 KIT = $(dir $(realpath $(shell command -v rt)))..
 # the version that the man page and the package tell
@@ -147,7 +147,7 @@ install: $(PROGRAM) $(LIBRARY)
 	install -D -m 644 completions/ccsuite.bash $(DESTDIR)$(bashdir)/ccsuite
 	install -D -m 644 completions/_ccsuite $(DESTDIR)$(zshdir)/_ccsuite
 	install -D -m 644 completions/ccsuite.fish $(DESTDIR)$(fishdir)/ccsuite.fish
-	install -m 644 viewer/viewer.html $(DESTDIR)$(datadir)/ccsuite/viewer.html
+	install -m 644 viewer/viewer.html viewer/viewer.png $(DESTDIR)$(datadir)/ccsuite
 	$(foreach document,$(DOCUMENTS),$(call put_document,$(document),$(docdir)))
 	install -m 644 package/copyright $(DESTDIR)$(docdir)
 	install -m 644 $(EXAMPLES) $(DESTDIR)$(docdir)/examples

@@ -32,6 +32,7 @@ wanted() {
     done
     echo "644 share/bash-completion/completions/ccsuite"
     echo "644 share/ccsuite/viewer.html"
+    echo "644 share/ccsuite/viewer.png"
     echo "644 share/doc/ccsuite/copyright"
     for document in COOKBOOK GLOSSARY MANUAL PROVED README SCALE; do echo "644 share/doc/ccsuite/$document.md"; done
     for example in examples/*.*; do echo "644 share/doc/ccsuite/$example"; done

@@ -11,12 +11,15 @@ has a brightness of its own is opened too, and the picture below the captions is
 import base64
 import html
 import json
+import os
 import pathlib
 import re
+import shlex
 import shutil
 import subprocess
 import sys
 import tempfile
+import time
 
 HERE = pathlib.Path(__file__).parent
 EXAMPLES = HERE.parent / "examples"
@@ -154,7 +157,12 @@ async function films({ film, frames }) {
     await new Promise(done => page.video.addEventListener("seeked", done, { once: true }));
     at.push(light());
   }
-  return { at, size: [page.video.videoWidth, page.video.videoHeight], fault: page.fault.textContent };
+  const played = [];
+  page.video.muted = true;
+  key("Home");
+  key(" ");
+  for (const until = performance.now() + 1500; performance.now() < until; await wait(50)) played.push([+page.frame.value, light()]);
+  return { at, played: played.slice(5), size: [page.video.videoWidth, page.video.videoHeight], fault: page.fault.textContent };
 }
 
 /** The time codes of frames, each at a rate. */
@@ -251,6 +259,61 @@ def run_page(script, *options):
         words = [CHROMIUM, "--headless", "--no-sandbox", "--disable-gpu", "--virtual-time-budget=60000", f"--user-data-dir={folder}/home"]
         ran = subprocess.run([*words, *options, page.as_uri()], capture_output=True, text=True, timeout=300)
         return ran.stdout
+
+
+class Browser:
+    """A Chromium in real time, in which a video is decoded: it takes commands over a pipe, each a JSON text with 00 at its end."""
+
+    def __init__(self, page, folder):
+        (taken, self.given), (self.taken, given) = os.pipe(), os.pipe()
+        words = [CHROMIUM, "--headless", "--no-sandbox", "--disable-gpu", "--remote-debugging-pipe", f"--user-data-dir={folder}/home", page.as_uri()]
+        script = f"exec {shlex.join(words)} 3<&{taken} 4>&{given}"
+        self.process = subprocess.Popen(["bash", "-c", script], pass_fds=(taken, given), stderr=subprocess.DEVNULL)
+        os.close(taken)
+        os.close(given)
+        self.number, self.read = 0, b""
+
+    def tell(self, method, session=None, **parameters):
+        """The answer to a command."""
+        self.number += 1
+        command = {"id": self.number, "method": method, "params": parameters} | ({"sessionId": session} if session else {})
+        os.write(self.given, json.dumps(command).encode() + b"\0")
+        while True:
+            while b"\0" not in self.read:
+                self.read += os.read(self.taken, 1 << 16) or sys.exit("Chromium ended")
+            answer, self.read = self.read.split(b"\0", 1)
+            if json.loads(answer).get("id") == self.number:
+                return json.loads(answer)["result"]
+
+    def page(self):
+        """The session of the page, when its functions are there."""
+        session = None
+        while not session or self.run("typeof films", session) != "function":
+            time.sleep(0.1)
+            pages = [it for it in self.tell("Target.getTargets")["targetInfos"] if it["type"] == "page" and it["url"].startswith("file:")]
+            if pages and not session:
+                session = self.tell("Target.attachToTarget", targetId=pages[0]["targetId"], flatten=True)["sessionId"]
+        return session
+
+    def run(self, script, session):
+        """What a script of the page answers."""
+        answer = self.tell("Runtime.evaluate", session, expression=script, awaitPromise=True, returnByValue=True)
+        assert "exceptionDetails" not in answer, answer
+        return answer["result"].get("value")
+
+
+def show_live(text, more):
+    """What the page answers of a text in real time: the name of a function of SCRIPT, and what it is given."""
+    with tempfile.TemporaryDirectory() as folder:
+        page = pathlib.Path(folder, "page.html")
+        page.write_text((HERE / "viewer.html").read_text().replace("</body>", f"<script>{SCRIPT % '[]'}</script></body>"))
+        browser = Browser(page, folder)
+        session = browser.page()
+        opened = f'choose("29.97", true); open(Uint8Array.from(atob("{base64.b64encode(text).decode()}"), it => it.charCodeAt(0)));'
+        answer = browser.run(f"{opened} {more[0]}({json.dumps(more[1])})", session)
+        browser.tell("Browser.close")
+        browser.process.wait()
+        return answer
 
 
 def show(texts):
@@ -591,7 +654,7 @@ def check_hand(texts, ask):
     print(f"{len(wanted)} pages: what they don't use takes no room")
 
 
-def check_film(ask):
+def check_film():
     """A video of 60 pictures with B pictures: picture n has the brightness 16 + 3 n of luma, which is 1.164 times 3 n on a screen."""
     if not shutil.which("ffmpeg"):
         print("ffmpeg isn't installed: no video was opened")
@@ -603,10 +666,11 @@ def check_film(ask):
         subprocess.run(["ffmpeg", "-v", "error", *pictures, *coder], check=True)
         text = base64.b64encode(film.read_bytes()).decode()
     frames = [0, 1, 2, 29, 30, 31, 58, 59, 12, 11, 10]
-    _, answer = show([ask(HELLO.replace(b"frames 30", b"frames 60"), more=["films", {"film": text, "frames": frames}])])
-    assert answer["more"]["size"] == [64, 48], answer["more"]
-    seen = [round(it / 1.164 / 3) for it in answer["more"]["at"]]
+    answer = show_live(HELLO.replace(b"frames 30", b"frames 60"), ["films", {"film": text, "frames": frames}])
+    assert answer["size"] == [64, 48] and not answer["fault"], answer
+    seen = [round(it / 1.164 / 3) for it in answer["at"]]
     assert seen == frames, f"{seen} and not {frames}"
+    assert answer["played"] and all(abs(round(light / 1.164 / 3) - frame) < 1 for frame, light in answer["played"]), answer["played"]
     print(f"{len(frames)} frames have their pictures of a video below the captions")
 
 
@@ -639,7 +703,7 @@ def main():
             check_list(name, answer, CAPTIONS[name])
     check_unread(show([ask(text) for text, _, _ in UNREAD])[1:])
     check_hand(texts, ask)
-    check_film(ask)
+    check_film()
     check_long(ask)
     if len(sys.argv) > 2:
         text = base64.b64encode(texts["programme.csv"]).decode()
