@@ -6,6 +6,7 @@
 ancillary packet 61/01. Both go from packet to packet, so they stand in a pipe that lives on.
 """
 
+import pathlib
 import signal
 import sys
 
@@ -54,7 +55,7 @@ def ancillary_of(packet):
 def main():
     convert = {"from-words": from_words, "to-words": to_words}.get(" ".join(sys.argv[1:]))
     if convert is None:
-        sys.exit("usage: cdp.py from-words | to-words")
+        sys.exit(f"usage: {pathlib.Path(sys.argv[0]).name} from-words | to-words")
     signal.signal(signal.SIGPIPE, signal.SIG_DFL)
     for packet in convert(sys.stdin.buffer):
         sys.stdout.buffer.write(packet)

@@ -33,6 +33,8 @@ from cdp import ancillary_of, from_words  # noqa: E402
 
 Gst.init(None)
 
+# video.py, or ccsuite-video where it is installed
+NAME = pathlib.Path(sys.argv[0]).name
 # by the code of SMPTE ST 334-2: frames a second, and triplets a frame
 RATES = {
     1: (fractions.Fraction(24000, 1001), 25), 2: (fractions.Fraction(24), 25), 3: (fractions.Fraction(25), 24),
@@ -54,7 +56,7 @@ MUXERS = {"mpegts": "mpegtsmux", "mov": "qtmux", "mp4": "mp4mux", "mxf": "mxfmux
 
 
 def tell(text):
-    print(f"video.py: {text}", file=sys.stderr)
+    print(f"{NAME}: {text}", file=sys.stderr)
 
 
 def refuse(text):
@@ -137,7 +139,7 @@ def picture_captions(file):
     with tempfile.TemporaryDirectory() as folder:
         link = pathlib.Path(folder, "video")
         link.symlink_to(pathlib.Path(file).resolve())
-        graph = f"movie={link},scale=2:2,format=gray[out+subcc]"
+        graph = f"movie={link},scale=2:2:flags=neighbor,format=gray[out+subcc]"
         triplets, pictures = [], 0
         for text in run_ffprobe("-f", "lavfi", "-i", graph, "-show_entries", "packet=stream_index,data", "-show_data"):
             stream, data = fields_of(text).get("stream_index"), bytes_of(text)
@@ -412,7 +414,7 @@ def into(file):
 def main():
     command = {"out": out, "into": into}.get(sys.argv[1] if len(sys.argv) == 3 else None)
     if command is None:
-        sys.exit("usage: video.py out FILE > WORDS | video.py into VIDEO < WORDS > FILE")
+        sys.exit(f"usage: {NAME} out FILE > WORDS | {NAME} into VIDEO < WORDS > FILE")
     signal.signal(signal.SIGPIPE, signal.SIG_DFL)
     if not os.access(sys.argv[2], os.R_OK):
         refuse(f"{sys.argv[2]} can't be read")

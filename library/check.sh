@@ -149,6 +149,8 @@ grep -oE 'ccsuite_[a-z_]+\(' library/ccsuite.h | tr -d '(' | sort -u > "$work/to
 diff "$work/told" "$work/given" || fail 'the header tells other calls than the library gives'
 echo "$(wc -l < "$work/told") calls; the archive needs: $undefined"
 
+objdump -p build/libccsuite.so | grep -q 'SONAME *libccsuite\.so\.0$' || fail 'the shared library has another soname'
+
 # An installation.
 make --no-print-directory -o build/libccsuite.a -o build/libccsuite.so install PREFIX=/usr DESTDIR="$work/root" PROGRAM="$program" > /dev/null
 if command -v pkg-config > /dev/null; then
