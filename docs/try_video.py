@@ -135,6 +135,17 @@ def try_anew(folder, captioned):
     print("video.py: a video's captions give way to others")
 
 
+def try_left_out(folder):
+    """Subtitles of MP4, which GStreamer's muxer doesn't take from its demuxer."""
+    clip, titles, both = folder / "clip.mp4", folder / "titles.srt", folder / "both.mp4"
+    make_clip(clip, "30000/1001", 40, H264)
+    titles.write_text("1\n00:00:00,000 --> 00:00:01,000\nHI\n")
+    ffmpeg("-i", clip, "-i", titles, "-map", "0", "-map", "1", "-c", "copy", "-c:s", "mov_text", both)
+    status, _, told = video("into", both, words_of(folder, "hello"))
+    assert status == 0 and told.endswith("; subtitle mov_text is left out\n"), told
+    print("video.py: a stream that doesn't come along is named")
+
+
 def try_refused(folder):
     clip, other = folder / "clip.ts", folder / "other.avi"
     make_clip(clip, "30000/1001", 40, H264)
@@ -166,6 +177,7 @@ def main():
         try_others(folder, captioned)
         try_anew(folder, captioned)
         try_track(folder)
+        try_left_out(folder)
         try_refused(folder)
 
 

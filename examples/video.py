@@ -6,11 +6,13 @@ its user data and H.264 in its SEI (ATSC A/53), in any file that Debian's ffmpeg
 ST 436). Where a picture has no captions, its frame has none. Triplets that don't count fill a packet up to the number of its rate.
 
 `into` writes VIDEO, in the same kind of file (TS, MP4, MOV or MXF), with the captions of words: frame f of these goes to picture f of H.264 or
-MPEG-2, as A/53, in place of what it has. No picture and no sound is coded anew. Debian's GStreamer reads and writes the file (python3-gst-1.0,
-gstreamer1.0-plugins-base, -good and -bad). `ccsuite decode` tries the words before, and ffmpeg reads the captions of what was written. The words
-have the video's rate, and no more frames than it has pictures. If something is wrong, standard error says what, and nothing is written.
+MPEG-2, as A/53, in place of what it has. No picture and no sound is coded anew; a stream that doesn't come along is named. Debian's GStreamer reads
+and writes the file (python3-gst-1.0, gstreamer1.0-plugins-base, -good and -bad). `ccsuite decode` tries the words before, and ffmpeg reads the
+captions of what was written. The words have the video's rate, and no more frames than it has pictures. If something is wrong, standard error says
+what, and nothing is written.
 """
 
+import collections
 import fractions
 import io
 import itertools
@@ -114,6 +116,11 @@ def streams_of(file):
     """The fields of each stream that ffprobe tells, in their order."""
     words = ["-show_entries", "stream=index,codec_type,codec_name,avg_frame_rate,r_frame_rate:stream_tags=data_type", file]
     return [fields_of(it) for it in run_ffprobe(*words) if "[STREAM]" in it]
+
+
+def kinds_of(file):
+    """How many streams of each kind a file has."""
+    return collections.Counter(f"{it['codec_type']} {it['codec_name']}" for it in streams_of(file))
 
 
 def video_of(file):
@@ -292,7 +299,7 @@ class Passage:
     """A file's way through GStreamer to a muxer, or to nothing: `change` goes over the data of each picture, and all else passes as it is."""
 
     def __init__(self, file, change, muxer=None):
-        self.change, self.has_pictures, self.left_out = change, False, []
+        self.change, self.has_pictures = change, False
         self.pipeline = Gst.parse_launch("filesrc name=file ! parsebin name=streams")
         self.pipeline.get_by_name("file").set_property("location", file)
         self.pipeline.get_by_name("streams").connect("pad-added", self.add)
@@ -322,7 +329,6 @@ class Passage:
         given = queue.get_static_pad("src")
         sink = self.muxer and self.muxer.get_compatible_pad(given, pad.query_caps(None))
         if sink is None:
-            self.left_out.append(name)
             sink = self.element("fakesink").get_static_pad("sink")
         given.link(sink)
 
@@ -405,9 +411,10 @@ def into(file):
         for number, (seen, wanted) in enumerate(itertools.zip_longest(picture_captions(written), captions)):
             if seen != wanted:
                 refuse(f"ffmpeg reads other captions in picture {number} of what was written")
+        left_out = kinds_of(file) - kinds_of(written)
         with open(written, "rb") as result:
             shutil.copyfileobj(result, sys.stdout.buffer)
-    rest = "".join(f"; {it} is left out" for it in passage.left_out)
+    rest = "".join(f"; {it} is left out" for it in left_out.elements())
     tell(f"{len(numbers)} {video['codec_name']} pictures, not coded anew, the first {given} with the words' captions{rest}")
 
 
