@@ -136,31 +136,35 @@ def try_anew(folder, captioned):
 
 
 def try_left_out(folder):
-    """Subtitles of MP4, which GStreamer's muxer doesn't take from its demuxer."""
-    clip, titles, both = folder / "clip.mp4", folder / "titles.srt", folder / "both.mp4"
+    """The track of time codes of MP4, which GStreamer's demuxer doesn't give."""
+    clip, timed = folder / "clip.mp4", folder / "timed.mp4"
     make_clip(clip, "30000/1001", 40, H264)
-    titles.write_text("1\n00:00:00,000 --> 00:00:01,000\nHI\n")
-    ffmpeg("-i", clip, "-i", titles, "-map", "0", "-map", "1", "-c", "copy", "-c:s", "mov_text", both)
-    status, _, told = video("into", both, words_of(folder, "hello"))
-    assert status == 0 and told.endswith("; subtitle mov_text is left out\n"), told
+    ffmpeg("-i", clip, "-c", "copy", "-timecode", "01:00:00:00", timed)
+    status, _, told = video("into", timed, words_of(folder, "hello"))
+    assert status == 0 and told.endswith("; data unknown is left out\n"), told
     print("video.py: a stream that doesn't come along is named")
 
 
 def try_refused(folder):
-    clip, other = folder / "clip.ts", folder / "other.avi"
+    clip, other, matroska, coded_order = [folder / it for it in ("clip.ts", "other.mp4", "clip.mkv", "clip.mxf")]
     make_clip(clip, "30000/1001", 40, H264)
     ffmpeg("-i", clip, "-c:v", "mpeg4", "-an", other)
+    ffmpeg("-i", clip, "-c", "copy", matroska)
+    ffmpeg("-i", clip, "-c", "copy", "-an", coded_order)
     hello = words_of(folder, "hello")
     for path, words, wanted in [
         (clip, words_of(folder, "double_rate"), "video.py: frame 0 of the words is at 59.94 and the video at 29.97\n"),
         (clip, hello + hello, "video.py: the words have 60 frames, and the video 40 pictures\n"),
         (clip, hello[:-1], "malformed at byte 4799: Truncated\n"),
-        (other, hello, "video.py: a file of the kind avi isn't written: TS, MP4, MOV and MXF are\n"),
+        (other, hello, "video.py: captions go into H.264 and MPEG-2, and not into mpeg4\n"),
+        (matroska, hello, "video.py: a file of the kind matroska isn't written: TS, MP4, MOV and MXF are\n"),
+        # GStreamer's demuxer tells the times of H.264 in MXF in the order in which the pictures are coded.
+        (coded_order, hello, "video.py: ffmpeg reads other captions in picture 1 of what was written\n"),
         (folder / "none.ts", hello, f"video.py: {folder}/none.ts can't be read\n"),
     ]:
         status, written, told = video("into", path, words)
         assert (status != 0, written, told) == (True, b"", wanted), told
-    print("video.py: five times something is wrong, and nothing is written")
+    print("video.py: seven times something is wrong, and nothing is written")
 
 
 def main():

@@ -120,7 +120,7 @@ def streams_of(file):
 
 def kinds_of(file):
     """How many streams of each kind a file has."""
-    return collections.Counter(f"{it['codec_type']} {it['codec_name']}" for it in streams_of(file))
+    return collections.Counter(f"{it['codec_type']} {it.get('codec_name', 'of another kind')}" for it in streams_of(file))
 
 
 def video_of(file):
@@ -215,8 +215,8 @@ def mpeg2_with(data, triplets):
     """The data of an MPEG-2 picture with these captions: user data before its first slice."""
     before, units = units_of(data)
     units = [it for it in units if not it.startswith(b"\xb2" + A53)]
-    first = next(at for at, unit in enumerate(units) if 0x01 <= unit[0] <= 0xAF)
-    if triplets:
+    first = next((at for at, unit in enumerate(units) if 0x01 <= unit[0] <= 0xAF), None)
+    if triplets and first is not None:
         units.insert(first, b"\xb2" + cc_data_of(triplets))
     return joined(before, units)
 
@@ -264,8 +264,8 @@ def h264_with(data, triplets):
     """The data of an H.264 picture with these captions: a unit of SEI before its first slice."""
     before, units = units_of(data)
     units = [it for it in map(without_captions, units) if it]
-    first = next(at for at, unit in enumerate(units) if unit[0] & 0x1F in (1, 2, 5, 14))
-    if triplets:
+    first = next((at for at, unit in enumerate(units) if unit[0] & 0x1F in (1, 2, 5, 14)), None)
+    if triplets and first is not None:
         units.insert(first, sei_of([(4, COUNTRY + cc_data_of(triplets))]))
     return joined(before, units)
 
@@ -324,7 +324,9 @@ class Passage:
             self.has_pictures = True
             pad = self.through_change(pad, *PARSERS[name])
         queue = self.element("queue")
-        queue.set_property("max-size-time", 0)
+        # as much as streams may lie apart in a file
+        for limit, most in (("time", 0), ("buffers", 0), ("bytes", 100_000_000)):
+            queue.set_property(f"max-size-{limit}", most)
         pad.link(queue.get_static_pad("sink"))
         given = queue.get_static_pad("src")
         sink = self.muxer and self.muxer.get_compatible_pad(given, pad.query_caps(None))
@@ -396,6 +398,9 @@ def captions_of(words, rate):
 def into(file):
     """Writes a file with the captions of words."""
     video, rate = video_of(file)
+    with_captions = {"h264": h264_with, "mpeg2video": mpeg2_with}.get(video["codec_name"])
+    if not with_captions:
+        refuse(f"captions go into H.264 and MPEG-2, and not into {video['codec_name']}")
     muxer = muxer_of(file)
     captions = captions_of(sys.stdin.buffer.read(), rate)
     numbers = numbers_of(file)
@@ -403,7 +408,6 @@ def into(file):
         refuse(f"the words have {len(captions)} frames, and the video {len(numbers)} pictures")
     given = len(captions)
     captions += [[]] * (len(numbers) - given)
-    with_captions = {"h264": h264_with, "mpeg2video": mpeg2_with}[video["codec_name"]]
     with tempfile.TemporaryDirectory() as folder:
         written = pathlib.Path(folder, "written")
         passage = Passage(file, lambda time, data: with_captions(data, captions[numbers[time]]), (muxer, str(written)))
