@@ -41,9 +41,9 @@ EXAMPLES = $(wildcard examples/*.*)
 # the scripts that are programs of their own: video.py is ccsuite-video
 SCRIPTS = video cdp
 # a document as it is installed: it names the files where they are
-INSTALLED = sed -e 's|docs/\(MANUAL\|COOKBOOK\|PROVED\|GLOSSARY\|SCALE\)\.md|$(docdir)/\1.md|g' \
-    -e 's|\(\.\./\)*viewer/viewer\.\(html\|png\)|$(datadir)/ccsuite/viewer.\2|g' -e 's|library/ccsuite.h|$(includedir)/ccsuite.h|g' \
-    -e 's/`\(docs\/[A-Z]*\.md\|bench\/[A-Z]*\.md\|make [^`]*\)`/& of the source/g' -e '/^make [a-z]* *\#/s/$$/, in the source/' -e 's/@VERSION@/$(VERSION)/'
+INSTALLED = sed -e 's!docs/\(MANUAL\|COOKBOOK\|PROVED\|GLOSSARY\|SCALE\)\.md!$(docdir)/\1.md!g' \
+    -e 's!\(\.\./\)*viewer/viewer\.\(html\|png\)!$(datadir)/ccsuite/viewer.\2!g' -e 's!library/ccsuite\.h!$(includedir)/ccsuite.h!g' \
+    -e 's!`\(docs/[A-Z]*\.md\|bench/[A-Z]*\.md\|make [^`]*\)`!& of the source!g' -e '/^make [a-z]* *\#/s/$$/, in the source/' -e 's/@VERSION@/$(VERSION)/'
 # the kit that `rt` is of
 KIT = $(dir $(realpath $(shell command -v rt)))..
 # the version that the man page and the package tell

@@ -79,7 +79,7 @@ check_folders() {
     for file in b/ccsuite b/ccsuite-video d/ccsuite/video.py m/man1/ccsuite.1 e/MANUAL.md e/examples/hello.csv usr/share/bash-completion/completions/ccsuite; do
         [ -e "$folder/$file" ] || fail "$file is not there"
     done
-    grep -q '/d/ccsuite/viewer.html' "$folder/e/MANUAL.md" || fail 'the manual names another viewer'
+    grep -q '/d/ccsuite/viewer.html' "$folder/e/MANUAL.md" && grep -q '/e/COOKBOOK.md' "$folder/e/MANUAL.md" || fail 'the manual names other files'
     run_make uninstall /usr "${folders[@]}"
     [ -z "$(find "$folder" ! -type d)" ] || fail "make uninstall leaves $(find "$folder" ! -type d)"
     echo 'each folder by itself: installed and taken away'

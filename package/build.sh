@@ -80,6 +80,7 @@ EOF
     pack libccsuite-dev << EOF
 Multi-Arch: same
 Depends: libccsuite0 (= $version)
+Suggests: ccsuite
 Section: libdevel
 Description: broadcast captions as a library, to build programs with
  The header of libccsuite, the library as an archive, and examples in C: an
