@@ -48,7 +48,7 @@ INSTALLED = sed -e 's!docs/\(MANUAL\|COOKBOOK\|PROVED\|GLOSSARY\|SCALE\)\.md!$(d
 KIT = $(dir $(realpath $(shell command -v rt)))..
 # the version that the man page and the package tell
 VERSION := $(shell sed -n '1s/.*(\(.*\)).*/\1/p' package/changes)
-# the library's name as programs ask for it: another number where a program would have to be compiled anew
+# the library's name as programs ask for it: another number if a program would have to be compiled anew
 SONAME := libccsuite.so.0
 DEB = build/ccsuite_$(VERSION)_$(shell dpkg --print-architecture).deb
 # how many crates are proved side by side

@@ -1,4 +1,4 @@
-# Completions of ccsuite for bash: the commands, and files for their cue lists and behind < and >; numbers and times are left to the user.
+# Completions of ccsuite for bash: the commands, and files for their cue lists and after < and >; numbers and times are left to the user.
 
 _ccsuite() {
     local word=${COMP_WORDS[COMP_CWORD]}

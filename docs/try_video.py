@@ -53,7 +53,7 @@ def video(way, path, stdin=None):
 
 
 def make_clip(path, rate, pictures, coder):
-    """A video of moving pictures, with sound where the file is TS or MP4."""
+    """A video of moving pictures, with sound if the file is TS or MP4."""
     sound = "-f lavfi -i sine=440 -c:a aac -ac 1 -shortest".split() if path.suffix in (".ts", ".mp4") else []
     inputs = ["-f", "lavfi", "-i", f"testsrc2=size=160x96:rate={rate}", *sound[:4]]
     ffmpeg(*inputs, *coder.split(), *sound[4:], "-frames:v", str(pictures), path)
@@ -131,7 +131,7 @@ def try_anew(folder, captioned):
     other = folder / "other.ts"
     other.write_bytes(video("into", captioned, words_of(folder, "english"))[1])
     assert is_verified("english", out_of(other)[:300 * 160])
-    assert out_of(other)[300 * 160:].count(bytes.fromhex("02FC01800180")) == 603, "behind the words a picture still has captions"
+    assert out_of(other)[300 * 160:].count(bytes.fromhex("02FC01800180")) == 603, "after the words a picture still has captions"
     print("video.py: a video's captions give way to others")
 
 

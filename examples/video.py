@@ -3,7 +3,7 @@
 
 `out` writes the words of the captions that a video carries, a packet for each picture in the order in which they are shown: what MPEG-2 has in
 its user data and H.264 in its SEI (ATSC A/53), in any file that Debian's ffmpeg reads, or what an MXF file has in a track of ancillary data (SMPTE
-ST 436). Where a picture has no captions, its frame has none. Triplets that don't count fill a packet up to the number of its rate.
+ST 436). If a picture has no captions, its frame has none. Triplets that don't count fill a packet up to the number of its rate.
 
 `into` writes VIDEO, in the same kind of file (TS, MP4, MOV or MXF), with the captions of words: frame f of these goes to picture f of H.264 or
 MPEG-2, as A/53, in place of what it has. No picture and no sound is coded anew; a stream that doesn't come along is named. Debian's GStreamer reads
@@ -197,7 +197,7 @@ def out(file):
 
 
 def units_of(data):
-    """What stands before the first start code of a picture's data, and its units: each what stands behind a start code, up to the next."""
+    """What stands before the first start code of a picture's data, and its units: each what stands after a start code, up to the next."""
     before, *units = data.split(START)
     return before, units
 
@@ -222,7 +222,7 @@ def mpeg2_with(data, triplets):
 
 
 def sei_number(body, at):
-    """A number of an SEI message, and the place behind it: FF counts on."""
+    """A number of an SEI message, and the place after it: FF counts on."""
     value = 0
     while body[at] == 0xFF:
         value, at = value + 0xFF, at + 1
@@ -240,7 +240,7 @@ def sei_messages(unit):
 
 
 def sei_of(messages):
-    """An SEI unit of messages, in which 03 stands behind two zeros that 00 to 03 follow."""
+    """An SEI unit of messages, in which 03 stands after two zeros that 00 to 03 follow."""
     body = b""
     for kind, message in messages:
         for value in (kind, len(message)):
@@ -250,7 +250,7 @@ def sei_of(messages):
 
 
 def without_captions(unit):
-    """An H.264 unit without the captions that it has; None where it has nothing else."""
+    """An H.264 unit without the captions that it has; None if it has nothing else."""
     if unit[0] & 0x1F != 6:
         return unit
     messages = list(sei_messages(unit))

@@ -39,7 +39,7 @@
 #ifndef CCSUITE_H
 #define CCSUITE_H
 
-/* The version of this header. Where a program would have to be compiled anew, the library has another soname: libccsuite.so.0 here. */
+/* The version of this header. If a program would have to be compiled anew, the library has another soname: libccsuite.so.0 here. */
 #define CCSUITE_VERSION "1.0"
 
 #include <stdbool.h>

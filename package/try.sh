@@ -1,7 +1,7 @@
 #!/usr/bin/env bash
 # Tries the Debian packages: [CHROOT=FOLDER] try.sh PROGRAM PACKAGE [LIBRARY ..]
 #
-# PACKAGE is that of the program, beside which those of the library stand, if it is given. lintian, where it is installed, finds no error. dpkg
+# PACKAGE is that of the program, beside which those of the library stand, if it is given. lintian, if it is installed, finds no error. dpkg
 # installs the packages into a folder of its own whose database has what they depend on alone: the files are those that `make install` puts, the
 # programs run, and dpkg takes everything away again. CHROOT is a clean Debian with python3, as debootstrap makes it, in which the same is tried.
 set -euo pipefail
@@ -34,7 +34,7 @@ wanted() {
     for name in "${names[@]}"; do printf "/usr/share/doc/$name/%s\n" changelog.gz copyright; done
 }
 
-# The files of the packages under a root, by what comes behind `--root=` or a chroot's dpkg.
+# The files of the packages under a root, by what comes after `--root=` or a chroot's dpkg.
 listed() {
     local root=$1
     shift

@@ -4,7 +4,7 @@
 The lists of examples/ are built and decoded by PROGRAM, of one of them frames are dropped for `conceal`, and viewer/windows.txt has a window of each
 kind. Each text is opened in the page, by the file field or by a drop; at each frame that changes, and the one before, the cells that are drawn are
 compared with the text, which is read here a second time. Positions, colours, keys, the line of time, the list of captions, lost frames, time codes,
-subtitles, searching, playing and what takes room are compared with values worked out by hand. Where ffmpeg is installed, a video each of whose pictures
+subtitles, searching, playing and what takes room are compared with values worked out by hand. If ffmpeg is installed, a video each of whose pictures
 has a brightness of its own is opened too, and the picture below the captions is that of the frame. PICTURE is written from the realistic programme.
 """
 
@@ -144,7 +144,7 @@ function unrated() {
   return [listed(), page.code.textContent, page.place.textContent, rooms()];
 }
 
-/** A video below the captions: at each frame the brightness of the picture, twice where it is gone to, and then while it plays, with the frame. */
+/** A video below the captions: at each frame the brightness of the picture, where it is gone to, and then while it plays, with the frame. */
 async function films({ film, frames }) {
   const bytes = Uint8Array.from(atob(film), it => it.charCodeAt(0));
   page.film.files = dropped(new File([bytes], "film.mp4", { type: "video/mp4" })).files;
