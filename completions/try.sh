@@ -1,8 +1,8 @@
 #!/usr/bin/env bash
 # Tries the completions that lie under a prefix, by running each shell that is there: try.sh PREFIX
 #
-# A shell is given the start of a command line, and must offer exactly the words that follow. Behind `<` it offers files: in bash, where a program's
-# own completions stand in the way of them, a line is typed in a terminal.
+# A shell is given the start of a command line, and must offer exactly the words that follow. After `<` it offers files: in bash, whose completions of a
+# program stand in the way of them, a line is typed in a terminal.
 prefix=$1
 here=$(realpath "$(dirname "$0")")
 folder=$(mktemp -d)
@@ -24,13 +24,13 @@ offers() {
     fi
 }
 
-# reads LINE WANTED: with a Tab behind LINE the program reads WANTED, in bash.
+# reads LINE WANTED: with a Tab after LINE the program reads WANTED, in bash.
 reads() {
     local got
     command -v python3 > /dev/null || return
     got=$("$here/type.py" "$prefix/share/bash-completion/completions/ccsuite" "$1"$'\t')
     if [ "$got" != "$2" ]; then
-        echo "bash: behind '$1' and a Tab: $got"
+        echo "bash: after '$1' and a Tab: $got"
         failed=1
     fi
 }

@@ -62,8 +62,8 @@ check() {
     echo "PREFIX=$prefix: installed, tried and taken away"
 }
 
-# Each file that a document names is installed, where it says; but for the library's header, which is put with the library. What is of the source alone
-# is called so.
+# Each file that a document names is installed, at the place that it names, but for the library's header, which is put with the library. What is of the
+# source alone is called so.
 check_names() {
     local documents=$folder$1/share/doc/ccsuite name
     for name in $(grep -ohE "$1/(include|share)/[A-Za-z_./]*[a-z]" "$documents"/*.md | sort -u); do
