@@ -71,13 +71,17 @@ fn a_packet_with_a_flipped_bit_is_not_found(rt: HostRuntime) {
 fn what_stands_behind_the_user_bytes_stays(rt: HostRuntime) {
     let mut packet = ArrayVec::new();
     write_packet(0x61, 0x01, &WITHOUT_CAPTIONS, &mut packet);
-    match found(&packet) {
-        Some((160, 73, out)) => {
+    let whole = found(&packet);
+    match &whole {
+        Some((words, bytes, out)) => {
             assert!(rt;
-                &out[..73] == WITHOUT_CAPTIONS.as_slice() && &out[73..] == [0xAA; 182].as_slice()
+                *words == 160
+                    && *bytes == 73
+                    && &out[..73] == WITHOUT_CAPTIONS.as_slice()
+                    && &out[73..] == [0xAA; 182].as_slice()
             )
         }
-        _ => panic!(&rt; "no such packet"),
+        None => panic!(&rt; "no such packet"),
     }
 }
 

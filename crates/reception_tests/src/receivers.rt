@@ -22,17 +22,22 @@ const SECTIONS: [u8; 62] = [
 /// The sizes of the pieces in which a frame is fed.
 const SIZES: [usize; 5] = [1, 2, 159, 160, 1000];
 
+// The last byte of a distribution packet after these: the sum of all is 0.
+fn last_after(front: &[u8]) -> u8 {
+    let mut last = 0u8;
+    for byte in front {
+        last = last.wrapping_sub(*byte);
+    }
+    last
+}
+
 // The words of a frame at 29.97 with this counter and these sections: 160 bytes.
 fn frame_of(counter: u8, sections: &[u8; 62]) -> ArrayVec<u8, 524> {
     let mut packet = [0u8; 73];
     packet[..7].copy_from_slice(&[0x96, 0x69, 0x49, 0x4F, 0x43, 0x00, counter]);
     packet[7..69].copy_from_slice(sections);
     packet[69..72].copy_from_slice(&[0x74, 0x00, counter]);
-    let mut last = 0u8;
-    for byte in &packet {
-        last = last.wrapping_sub(*byte);
-    }
-    packet[72] = last;
+    packet[72] = last_after(&packet);
     let mut words = ArrayVec::new();
     write_packet(0x61, 0x01, &packet, &mut words);
     words
