@@ -33,13 +33,13 @@ fn last_after(front: &[u8]) -> u8 {
 
 // The words of a frame at 29.97 with this counter and these sections: 160 bytes.
 fn frame_of(counter: u8, sections: &[u8; 62]) -> ArrayVec<u8, 524> {
-    let mut packet = [0u8; 73];
-    packet[..7].copy_from_slice(&[0x96, 0x69, 0x49, 0x4F, 0x43, 0x00, counter]);
-    packet[7..69].copy_from_slice(sections);
-    packet[69..72].copy_from_slice(&[0x74, 0x00, counter]);
-    packet[72] = last_after(&packet);
+    let mut packet: ArrayVec<u8, 73> = ArrayVec::new();
+    let _ = packet.try_extend_from_slice(&[0x96, 0x69, 0x49, 0x4F, 0x43, 0x00, counter]);
+    let _ = packet.try_extend_from_slice(sections);
+    let _ = packet.try_extend_from_slice(&[0x74, 0x00, counter]);
+    let _ = packet.try_push(last_after(packet.as_slice()));
     let mut words = ArrayVec::new();
-    write_packet(0x61, 0x01, &packet, &mut words);
+    write_packet(0x61, 0x01, packet.as_slice(), &mut words);
     words
 }
 
