@@ -19,7 +19,7 @@ import time
 TOP = pathlib.Path(__file__).resolve().parent.parent
 ROW = re.compile(r"(\w+)([^:#]*):([^#]*)")
 # The seconds of a processor that a proof takes to begin, and for each function, as measured on 2026-12-01. Their sum is what the first estimates rest on.
-BEGIN, EACH = 28, 1.9
+BEGIN, EACH = 17, 1.9
 # So many of these seconds must be proved before this machine's own speed tells more than the measured one.
 TRUSTED = 300
 ENDED = re.compile(r"rt: (\w+) (proved|NOT PROVED|is kept)")
