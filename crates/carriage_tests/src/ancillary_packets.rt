@@ -71,12 +71,13 @@ fn a_packet_with_a_flipped_bit_is_not_found(rt: HostRuntime) {
 fn what_stands_behind_the_user_bytes_stays(rt: HostRuntime) {
     let mut packet = ArrayVec::new();
     write_packet(0x61, 0x01, &WITHOUT_CAPTIONS, &mut packet);
-    let whole = found(&packet);
-    match &whole {
-        Some((words, bytes, out)) => {
+    match CaptionPacket::at_front(&packet) {
+        Some(whole) => {
+            let mut out = [0xAA; 255];
+            let many = whole.user_bytes(&mut out);
             assert!(rt;
-                *words == 160
-                    && *bytes == 73
+                whole.size() == 160
+                    && many == 73
                     && &out[..73] == WITHOUT_CAPTIONS.as_slice()
                     && &out[73..] == [0xAA; 182].as_slice()
             )

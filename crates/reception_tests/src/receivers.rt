@@ -1,5 +1,3 @@
-ghost use Rattle.std.specs.Prelude.{◌<◌};
-
 mod repeating;
 mod services;
 
@@ -56,12 +54,10 @@ fn feed_piece(receiver: &mut Receiver, piece: &[u8]) -> Result<(), Refusal> {
     Ok(())
 }
 
-// Feeds bytes in pieces of this size, and gives the last answer.
-fn feed_pieces(receiver: &mut Receiver, bytes: &[u8], size: usize) -> Result<(), Refusal>
-    requires { 0 < size }
-{
+// Feeds bytes in pieces of this size, 0 as 1, and gives the last answer.
+fn feed_pieces(receiver: &mut Receiver, bytes: &[u8], size: usize) -> Result<(), Refusal> {
     let mut answer = Ok(());
-    for piece in bytes.chunks(size) {
+    for piece in bytes.chunks(size.max(1)) {
         answer = feed_piece(receiver, piece);
     }
     answer
