@@ -78,8 +78,8 @@ fn what_stands_behind_the_user_bytes_stays(rt: HostRuntime) {
             assert!(rt;
                 whole.size() == 160
                     && many == 73
-                    && &out[..73] == WITHOUT_CAPTIONS.as_slice()
-                    && &out[73..] == [0xAA; 182].as_slice()
+                    && out.get(..73).unwrap_or(&[]) == WITHOUT_CAPTIONS.as_slice()
+                    && out.get(73..).unwrap_or(&[]) == [0xAA; 182].as_slice()
             )
         }
         None => panic!(&rt; "no such packet"),
