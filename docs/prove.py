@@ -2,8 +2,9 @@
 """Proves a crate with those below it, tells how far it is, and puts what is built where it is wanted: prove.py CRATE FILE LOG
 
 It works on a copy of these crates without their must-fail edits. A program is proved as the gate proves it, by `rt ci`, so `make check` takes from this
-machine's kept work what was proved here; the edits are left to it, since with them this takes half as long again. A static library, which `rt ci` doesn't
-build, is proved by `rt all check` and built by `rt lib`. RT_JOBS crates are proved side by side; what the prover says goes to LOG.
+machine's kept work what was proved here; the edits are left to it, since with them this takes half as long again. Before its first proof `rt ci` reads all
+crates; meanwhile those that stand on no other are proved by a run of their own, which the whole run takes from the kept work. A static library, which
+`rt ci` doesn't build, is proved by `rt all check` and built by `rt lib`. RT_JOBS crates are proved side by side; what the prover says goes to LOG.
 """
 
 import os
@@ -14,6 +15,7 @@ import signal
 import subprocess
 import sys
 import tempfile
+import threading
 import time
 
 TOP = pathlib.Path(__file__).resolve().parent.parent
@@ -41,6 +43,11 @@ def below(name, rows):
             found.add(crate)
             left += rows[crate][3].split()
     return found
+
+
+def lowest(names, rows):
+    """Those of the crates that stand on none of the others."""
+    return sorted(name for name in names if names.isdisjoint(rows[name][3].split()))
 
 
 def copy_crates(names, rows, room):
@@ -99,11 +106,14 @@ class Progress:
         return f"about {minutes:.0f} minutes left" if minutes >= 1 else "less than a minute left"
 
 
-def follow(words, folder, log, progress):
-    """Runs rt in a folder of the copy, tells what is proved, and returns its status."""
+def start(words, folder, progress):
+    """Starts rt in a folder of the copy."""
     how = {"stdout": subprocess.PIPE, "stderr": subprocess.STDOUT, "text": True, "errors": "replace"}
-    process = subprocess.Popen(["rt", *words], cwd=folder, env={**os.environ, "RT_JOBS": str(progress.jobs)}, **how)
-    ended_in = ended_in_ci if words[0] == "ci" else ended_in_all
+    return subprocess.Popen(["rt", *words], cwd=folder, env={**os.environ, "RT_JOBS": str(progress.jobs)}, **how)
+
+
+def hear(process, ended_in, log, progress):
+    """Tells what rt proves, as it says so, and returns its status. However this ends, rt ends."""
     try:
         for name, is_proved in ended_in(noted(process.stdout, log)):
             progress.tell(name, is_proved)
@@ -121,15 +131,25 @@ def noted(lines, log):
         yield line
 
 
-def prove(name, is_library, room, log, progress):
+def prove_program(first, room, log, progress):
+    """Proves all crates of the copy by `rt ci`, those named `first` at once, and returns its status."""
+    early = start(["ci", *first], room, progress)
+    threading.Thread(target=hear, args=(early, ended_in_ci, log, progress), daemon=True).start()
+    try:
+        return hear(start(["ci"], room, progress), ended_in_ci, log, progress)
+    finally:
+        early.terminate()
+
+
+def prove(name, is_library, first, room, log, progress):
     """Proves and builds in the copy, and returns what was built, if all went well."""
     crate = room / "crates" / name
     if not is_library:
-        status = follow(["ci"], room, log, progress)
+        status = prove_program(first, room, log, progress)
         built = crate / "out" / name
     else:
-        status = follow(["all", "check", "--jobs", str(progress.jobs)], room, log, progress)
-        status = status or follow(["lib"], crate, log, progress)
+        status = hear(start(["all", "check", "--jobs", str(progress.jobs)], room, progress), ended_in_all, log, progress)
+        status = status or hear(start(["lib"], crate, progress), ended_in_all, log, progress)
         built = crate / "out" / f"lib{name}.a"
     return built if not status and built.is_file() else None
 
@@ -150,7 +170,7 @@ def main():
         room = pathlib.Path(folder).resolve()
         copy_crates(names, rows, room)
         progress = Progress(room, names, jobs)
-        built = prove(name, "staticlib" in rows[name][2], room, log, progress)
+        built = prove(name, "staticlib" in rows[name][2], lowest(names, rows), room, log, progress)
         if built:
             shutil.copy(built, f"{file}.new")
             os.replace(f"{file}.new", file)
