@@ -36,7 +36,7 @@ impl Makes for Build {
     }
 }
 
-/// Reads a cue list, and puts the ancillary packet of each of its frames, one put a frame.
+/// Reads a cue list, and puts the ancillary packets of its frames, gathered so that a put has those of many.
 pub fn run_build<M: Source, O: Sink>(alloc: Global, input: &mut M, out: &mut O) -> Status
     ensures { BuildAnswer
         (ends (M.left input.old) (M.faults input.old) (O.written out.old) (O.faults out.old))

@@ -10,7 +10,7 @@ use command_base::{Place, Status};
 use cue_list_commands::{Makes, ReadsSide, read_list, run_beside};
 use cue_lists::RuleFault;
 use dual_plans::{Dual, DualFault, plan_dual};
-use frame_carrier::{GatheredWords, Programme};
+use frame_carrier::{Programme, Words};
 use std::alloc::Global;
 
 impl Makes for DualOf {
@@ -19,7 +19,7 @@ impl Makes for DualOf {
 
     type Made = Dual;
 
-    type Puts = GatheredWords;
+    type Puts = Words;
 
     ghost Accepted = { PlacedLists };
 

@@ -15,7 +15,7 @@ pub record IsOnTheWay (old new : Option (List ℕ)) (rest all : List ℕ) : Type
   pub whole : sent ++ rest ≡ all
 
 -- a piece more was put
-pub piece_put : (a b c : Option (List ℕ)) (piece rest all : List ℕ)
+piece_put : (a b c : Option (List ℕ)) (piece rest all : List ℕ)
     → IsOnTheWay a b (piece ++ rest) all → Puts b c put.Done piece → IsOnTheWay a c rest all
 piece_put a b c piece rest all way next = record {
   sent = way.sent ++ piece;

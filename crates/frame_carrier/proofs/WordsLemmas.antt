@@ -1,4 +1,4 @@
--- The words of a programme's frames on their way to a sink, a packet a put or gathered.
+-- The words of a programme's frames on their way to a sink, gathered.
 use Rattle.std.proofs.Common.{◌≡◌, ◌∙◌, ◌++◌, ◌+◌, ap, suc, sym, subst, ℕ, List, [], Option, add-one}
 use Rattle.cc_base.specs.Streams.{Puts}
 use Rattle.cc_base.specs.declared.rate.Rate.{Rate}
@@ -9,7 +9,7 @@ use Rattle.frame_scheduler.specs.declared.frames.FrameBytes.{FrameBytes}
 use Rattle.frame_carrier.specs.Carrying.{IsAt, channel_packet, column_bytes, frame_bytes, packet_count, packets_before}
 use Rattle.frame_carrier.specs.declared.carrier.Carrier.{Carrier}
 use Rattle.text_output.specs.Gathered.{Flushes, Gathers}
-use Rattle.frame_carrier.proofs.OnTheWay.{IsOnTheWay, piece_gathered, piece_put, way_ended, way_failed}
+use Rattle.frame_carrier.proofs.OnTheWay.{IsOnTheWay, piece_gathered, way_ended, way_failed}
 
 -- the words of columns are on their way: behind what is held these frames, of which so many are left, give the others, and the carrier is at the next one
 pub record WordsOnTheWay {F : Type 0} (left : F → ℕ) (Gives : Columns → ℕ → F → Type 0) (rate : Rate) (columns : Columns) (old new : Option (List ℕ)) (held : List ℕ) (frames : F) (carrier : Carrier) (all : List ℕ) : Type 0 where
@@ -48,17 +48,6 @@ words_passed left Gives rate columns a b c before after words all old new carrie
       way = passes (column_bytes rate columns (on.frame + 1) (left new)) (subst (λ (l : List ℕ). IsOnTheWay a b (before ++ l) all) first on.way);
     }
 
--- they were put
-pub words_added : {F : Type 0} (left : F → ℕ) (Gives : Columns → ℕ → F → Type 0) (rate : Rate) (columns : Columns) (a b c : Option (List ℕ)) (words all : List ℕ) (old new : F) (carrier next_carrier : Carrier) (pairs : FrameBytes)
-    → WordsOnTheWay left Gives rate columns a b [] old carrier all → left new + 1 ≡ left old
-    → ((columns : Columns) (frame : ℕ) → Gives columns frame old → (pairs ≡ columns frame) × Gives columns (frame + 1) new)
-    → ((rate : Rate) (frame count : ℕ) → IsAt rate frame count carrier → words ≡ frame_bytes rate frame pairs (channel_packet count pairs.blocks.items))
-    → ((rate : Rate) (frame count : ℕ) → IsAt rate frame count carrier → IsAt rate (frame + 1) (count + packet_count pairs.blocks.items) next_carrier)
-    → Puts b c put.Done words → WordsOnTheWay left Gives rate columns a c [] new next_carrier all
-words_added left Gives rate columns a b c words all old new carrier next_carrier pairs on fewer gives carries moves appended =
-    words_passed left Gives rate columns a b c [] [] words all old new carrier next_carrier pairs on fewer gives carries moves
-    (λ rest way. piece_put a b c words rest all way appended)
-
 -- they were gathered
 pub words_gathered : {F : Type 0} (left : F → ℕ) (Gives : Columns → ℕ → F → Type 0) (rate : Rate) (columns : Columns) (a b c : Option (List ℕ)) (before after words all : List ℕ) (old new : F) (carrier next_carrier : Carrier) (pairs : FrameBytes)
     → WordsOnTheWay left Gives rate columns a b before old carrier all → left new + 1 ≡ left old
@@ -69,17 +58,6 @@ pub words_gathered : {F : Type 0} (left : F → ℕ) (Gives : Columns → ℕ �
 words_gathered left Gives rate columns a b c before after words all old new carrier next_carrier pairs on fewer gives carries moves gathers =
     words_passed left Gives rate columns a b c before after words all old new carrier next_carrier pairs on fewer gives carries moves
     (λ rest way. piece_gathered a b c before after words rest all way gathers)
-
--- a put of them failed
-pub words_failed : {F : Type 0} (left : F → ℕ) (Gives : Columns → ℕ → F → Type 0) (rate : Rate) (columns : Columns) (a b c : Option (List ℕ)) (words all : List ℕ) (old new : F) (carrier : Carrier) (pairs : FrameBytes)
-    → WordsOnTheWay left Gives rate columns a b [] old carrier all → left new + 1 ≡ left old
-    → ((columns : Columns) (frame : ℕ) → Gives columns frame old → (pairs ≡ columns frame) × Gives columns (frame + 1) new)
-    → ((rate : Rate) (frame count : ℕ) → IsAt rate frame count carrier → words ≡ frame_bytes rate frame pairs (channel_packet count pairs.blocks.items))
-    → Puts b c put.Failed words → Puts a c put.Failed all
-words_failed left Gives rate columns a b c words all old new carrier pairs on fewer gives carries failed =
-    let (pairs_are, more) = gives columns on.frame on.gives in
-    let first = first_words rate columns on.frame (left old) (left new) pairs words fewer pairs_are (carries rate on.frame (packets_before columns on.frame) on.at_frame) in
-    way_failed a b c words (column_bytes rate columns (on.frame + 1) (left new)) all (subst (λ (l : List ℕ). IsOnTheWay a b l all) first on.way) failed
 
 -- a put of what is held failed
 pub held_failed : {F : Type 0} (left : F → ℕ) (Gives : Columns → ℕ → F → Type 0) (rate : Rate) (columns : Columns) (a b c : Option (List ℕ)) (held all : List ℕ) (frames : F) (carrier : Carrier)

@@ -4,14 +4,12 @@
 #![tactic(auto)]
 
 pub use crate::carrier::Carrier;
-pub use crate::gathered_words::GatheredWords;
 pub use crate::overlaid::Overlaid;
 pub use crate::overlay::Overlay;
 pub use crate::programme::Programme;
 pub use crate::put::{Output, Words, put_words};
 
 mod carrier;
-mod gathered_words;
 pub mod laws;
 mod overlaid;
 mod overlay;

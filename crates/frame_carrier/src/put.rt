@@ -7,6 +7,7 @@ use crate::programme::Programme;
 use arrayvec::ArrayVec;
 use cc_base::{Put, Sink};
 use frame_scheduler::Frames;
+use text_output::Gathered;
 
 /// What is put of a programme.
 pub trait Output {
@@ -31,21 +32,22 @@ impl Output for Words {
     }
 }
 
-/// Puts the ancillary packet of each frame of a programme, one put a frame.
+/// Puts the ancillary packets of a programme's frames, gathered so that a put has those of many frames.
 pub fn put_words<F: Frames + Drop, O: Sink>(programme: Programme<F>, out: &mut O) -> Put
     ensures bytes { (framing : Framing) → HasFraming F.left F.Gives framing programme
         → Puts (O.written out.old) (O.written out.new) result (words_of framing) }
     ensures cause { PutCause (O.faults out.old) (O.faults out.new) result }
 {
+    let mut gathered = Gathered::new();
     let mut carrier = Carrier::new(programme.rate);
     let mut frames = programme.frames;
     let mut words = ArrayVec::new();
     while let Some(pairs) = frames.next() {
         carrier.put_words(&pairs, &mut words);
-        match out.put(&words) {
+        match gathered.add(&words, out) {
             Put::Done => words.clear(),
             Put::Failed => return Put::Failed,
         }
     }
-    Put::Done
+    gathered.flush(out)
 }

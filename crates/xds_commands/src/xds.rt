@@ -9,7 +9,7 @@ use crate::xds_of::XdsOf;
 use cc_base::{Sink, Source};
 use command_base::Status;
 use cue_list_commands::{Makes, ReadsSide, read_list, run_beside};
-use frame_carrier::{GatheredWords, Programme};
+use frame_carrier::{Programme, Words};
 use std::alloc::Global;
 use xds_frames::{XdsFrames, XdsPlanFault, plan_xds};
 
@@ -19,7 +19,7 @@ impl Makes for XdsOf {
 
     type Made = XdsFrames;
 
-    type Puts = GatheredWords;
+    type Puts = Words;
 
     ghost Accepted = { PlacedPackets };
 
