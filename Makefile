@@ -39,7 +39,9 @@ fishdir ?= $(datarootdir)/fish/vendor_completions.d
 DOCUMENTS = README.md docs/MANUAL.md docs/COOKBOOK.md docs/PROVED.md docs/GLOSSARY.md docs/SCALE.md
 EXAMPLES = $(wildcard examples/*.*)
 # the scripts that are programs of their own: video.py is ccsuite-video
-SCRIPTS = video cdp
+SCRIPTS = video cdp subtitles
+# the programs that shells complete
+COMPLETED = ccsuite ccsuite-subtitles
 # a document as it is installed: it names the files where they are
 INSTALLED = sed -e 's!docs/\(MANUAL\|COOKBOOK\|PROVED\|GLOSSARY\|SCALE\)\.md!$(docdir)/\1.md!g' \
     -e 's!\(\.\./\)*viewer/viewer\.\(html\|png\)!$(datadir)/ccsuite/viewer.\2!g' -e 's!library/ccsuite\.h!$(includedir)/ccsuite.h!g' \
@@ -144,9 +146,9 @@ install: $(PROGRAM) $(LIBRARY)
 	$(foreach page,$(wildcard man/*.1),$(call put_document,$(page),$(mandir)/man1))
 	$(foreach name,$(SCRIPTS),install -m 755 examples/$(name).py $(DESTDIR)$(datadir)/ccsuite/$(name).py && \
 	    ln -sfr $(DESTDIR)$(datadir)/ccsuite/$(name).py $(DESTDIR)$(bindir)/ccsuite-$(name) &&) :
-	install -D -m 644 completions/ccsuite.bash $(DESTDIR)$(bashdir)/ccsuite
-	install -D -m 644 completions/_ccsuite $(DESTDIR)$(zshdir)/_ccsuite
-	install -D -m 644 completions/ccsuite.fish $(DESTDIR)$(fishdir)/ccsuite.fish
+	$(foreach name,$(COMPLETED),install -D -m 644 completions/$(name).bash $(DESTDIR)$(bashdir)/$(name) && \
+	    install -D -m 644 completions/_$(name) $(DESTDIR)$(zshdir)/_$(name) && \
+	    install -D -m 644 completions/$(name).fish $(DESTDIR)$(fishdir)/$(name).fish &&) :
 	install -m 644 viewer/viewer.html viewer/viewer.png $(DESTDIR)$(datadir)/ccsuite
 	$(foreach document,$(DOCUMENTS),$(call put_document,$(document),$(docdir)))
 	install -m 644 package/copyright $(DESTDIR)$(docdir)
@@ -156,7 +158,7 @@ install: $(PROGRAM) $(LIBRARY)
 uninstall:
 	rm -f $(DESTDIR)$(bindir)/ccsuite $(addprefix $(DESTDIR)$(bindir)/ccsuite-,$(SCRIPTS)) \
 	    $(addprefix $(DESTDIR)$(mandir)/man1/,$(notdir $(wildcard man/*.1))) \
-	    $(DESTDIR)$(bashdir)/ccsuite $(DESTDIR)$(zshdir)/_ccsuite $(DESTDIR)$(fishdir)/ccsuite.fish \
+	    $(foreach name,$(COMPLETED),$(DESTDIR)$(bashdir)/$(name) $(DESTDIR)$(zshdir)/_$(name) $(DESTDIR)$(fishdir)/$(name).fish) \
 	    $(DESTDIR)$(libdir)/libccsuite.a $(addprefix $(DESTDIR)$(libdir)/,libccsuite.so $(SONAME) $(SONAME).$(VERSION)) \
 	    $(DESTDIR)$(libdir)/pkgconfig/ccsuite.pc $(DESTDIR)$(includedir)/ccsuite.h
 	rm -rf $(DESTDIR)$(docdir) $(DESTDIR)$(datadir)/ccsuite

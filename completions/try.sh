@@ -35,14 +35,14 @@ reads() {
     fi
 }
 
-# What bash's function for the program makes of a line.
+# What bash's function for the line's program makes of the line.
 bash_offers() {
     bash --norc -c '
-        source "$1/share/bash-completion/completions/ccsuite"
+        source "$1/share/bash-completion/completions/${2%% *}"
         read -r -a COMP_WORDS <<< "$2"
         [[ $2 == *" " ]] && COMP_WORDS+=("")
         COMP_CWORD=$((${#COMP_WORDS[@]} - 1))
-        $(complete -p ccsuite | sed "s/.*-F \([^ ]*\).*/\1/")
+        $(complete -p "${2%% *}" | sed "s/.*-F \([^ ]*\).*/\1/")
         printf "%s\n" "${COMPREPLY[@]}"' bash "$prefix" "$1"
 }
 
@@ -66,7 +66,7 @@ zsh_offers() {
 # What fish says that it would offer.
 fish_offers() {
     HOME=$folder fish --no-config -c '
-        source $argv[1]/share/fish/vendor_completions.d/ccsuite.fish
+        source $argv[1]/share/fish/vendor_completions.d/(string split -f 1 " " $argv[2]).fish
         complete -C $argv[2]' "$prefix" "$1" | cut -f 1 | sed 's:/$::'
 }
 
@@ -96,6 +96,10 @@ for shell in bash zsh fish; do
     offers "$shell" 'ccsuite export-mcc 6' '60 60DF'
     offers "$shell" 'ccsuite export-mcc 60 ' ''
     offers "$shell" 'ccsuite xds l' 'list.csv'
+    offers "$shell" 'ccsuite-subtitles --r' '--rate --replace --row'
+    offers "$shell" 'ccsuite-subtitles --on C' 'CC1 CC3'
+    offers "$shell" 'ccsuite-subtitles --rate 59.94 --on S6 l' 'list.csv'
+    offers "$shell" 'ccsuite-subtitles --late ' ''
     if [ "$shell" = bash ]; then
         reads 'ccsuite build < l' 'a list'
         reads 'ccsuite verify list.csv < l' 'a list'

@@ -3,8 +3,9 @@
 
 In a block of the kind `console`, a line that begins with `$ ` is a command, `> ` goes on with it, and the lines below are what it prints, to
 standard output and error. The commands of a document are run by one bash, in a folder of its own with the folder examples/ in it, where
-`ccsuite` is PROGRAM. A word behind `console` names a program that the block needs, or a package of Debian's Python (`python3-webvtt`): where that
-isn't installed, the block is passed over. `libccsuite.so` is build/libccsuite.so, which the commands find.
+`ccsuite` is PROGRAM, and `ccsuite-subtitles` the script that is installed so. A word behind `console` names a program that the block needs, or a
+package of Debian's Python (`python3-gi`): where that isn't installed, the block is passed over. `libccsuite.so` is build/libccsuite.so, which the
+commands find.
 """
 
 import pathlib
@@ -64,6 +65,7 @@ def run(commands, program):
         shutil.copy(TOP / "examples" / "hello.csv", home)
         (home / ".bin").mkdir()
         (home / ".bin" / "ccsuite").symlink_to(program)
+        (home / ".bin" / "ccsuite-subtitles").symlink_to(home / "examples" / "subtitles.py")
         # Each command sees the status of the one before.
         lines = [f"{command}\n{{ status=$?; echo '{MARK}'; (exit $status); }}\n" for command, _ in commands]
         script = f"exec 2>&1\nPATH={home}/.bin:$PATH\nexport LD_LIBRARY_PATH={TOP}/build\n" + "".join(lines)

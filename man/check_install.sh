@@ -25,20 +25,22 @@ run_make() {
 # The files that stand under a prefix with zsh's folder $1, each with its mode.
 wanted() {
     echo "755 bin/ccsuite"
-    for script in cdp video; do
+    for script in cdp subtitles video; do
         echo "777 bin/ccsuite-$script"
         echo "755 share/ccsuite/$script.py"
         echo "644 share/man/man1/ccsuite-$script.1"
     done
-    echo "644 share/bash-completion/completions/ccsuite"
+    for name in ccsuite ccsuite-subtitles; do
+        echo "644 share/bash-completion/completions/$name"
+        echo "644 share/fish/vendor_completions.d/$name.fish"
+        echo "644 share/zsh/$1/_$name"
+    done
     echo "644 share/ccsuite/viewer.html"
     echo "644 share/ccsuite/viewer.png"
     echo "644 share/doc/ccsuite/copyright"
     for document in COOKBOOK GLOSSARY MANUAL PROVED README SCALE; do echo "644 share/doc/ccsuite/$document.md"; done
     for example in examples/*.*; do echo "644 share/doc/ccsuite/$example"; done
-    echo "644 share/fish/vendor_completions.d/ccsuite.fish"
     echo "644 share/man/man1/ccsuite.1"
-    echo "644 share/zsh/$1/_ccsuite"
 }
 
 check() {
@@ -48,6 +50,8 @@ check() {
     check_names "$prefix"
     [ "$("$root/bin/ccsuite" pairs < "$root/share/doc/ccsuite/examples/hello.csv" | head -1)" = '9420 8080' ] || fail 'the program does not run'
     printf '\x96\x69\x05ab' | "$root/bin/ccsuite-cdp" to-words | "$root/bin/ccsuite-cdp" from-words | grep -q ab || fail 'ccsuite-cdp does not run'
+    PATH=$root/bin:$PATH ccsuite-subtitles "$root/share/doc/ccsuite/examples/film.srt" 2> /dev/null | "$root/bin/ccsuite" build > /dev/null ||
+        fail 'ccsuite-subtitles does not run'
     for page in "$root"/share/man/man1/*; do
         tr '\n' ' ' < "$page" | grep -q "version $version, " || fail "$page tells another version"
         if command -v mandoc > /dev/null; then

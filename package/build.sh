@@ -96,7 +96,6 @@ strip --remove-section=.comment --remove-section=.note "$folder/ccsuite/usr/bin/
 pack ccsuite << EOF
 Depends: $(libc_of "$folder/ccsuite/usr/bin/ccsuite"), python3
 Recommends: ffmpeg, python3-gst-1.0, gstreamer1.0-plugins-base, gstreamer1.0-plugins-good, gstreamer1.0-plugins-bad
-Suggests: python3-webvtt
 Section: video
 Description: author broadcast captions, and show what a viewer sees of them
  ccsuite reads a cue list, captions for given frames of a programme, and writes
@@ -105,5 +104,5 @@ Description: author broadcast captions, and show what a viewer sees of them
  to the screens that a viewer sees, verifies them against a list, puts captions
  into words that are there, and reads and writes SCC and MCC files. Each of its
  functions is proved to meet its contract. ccsuite-video puts words into video
- files, and takes them out.
+ files, and takes them out; ccsuite-subtitles makes a cue list of SRT or WebVTT.
 EOF

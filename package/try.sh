@@ -45,7 +45,8 @@ listed() {
 try_files() {
     [ "$("$@" ccsuite pairs < examples/hello.csv | head -1)" = '9420 8080' ] || fail 'the program does not run'
     printf '\x96\x69\x05ab' | "$@" ccsuite-cdp to-words | "$@" ccsuite-cdp from-words | grep -q ab || fail 'ccsuite-cdp does not run'
-    for page in ccsuite ccsuite-cdp ccsuite-video; do
+    "$@" ccsuite-subtitles - < examples/film.srt 2> /dev/null | "$@" ccsuite build > /dev/null || fail 'ccsuite-subtitles does not run'
+    for page in ccsuite ccsuite-cdp ccsuite-subtitles ccsuite-video; do
         "$@" cat "/usr/share/man/man1/$page.1.gz" | gunzip | tr '\n' ' ' | grep -q "version $version, " || fail "the man page of $page tells another version"
     done
 }
