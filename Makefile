@@ -6,14 +6,16 @@
 # make bench    measures each command, and cue lists, the receiver's frames, pairs and bytes of services by themselves, and puts the rows into bench/README.md
 # make lib      proves the library for C and builds it: build/libccsuite.a, in one file with what it needs of the kit, and build/libccsuite.so
 # make install  puts the program, the library with its header, the man pages, completions, documents, examples and viewer under PREFIX
-#               (/usr/local), in DESTDIR if it is set; with LIBRARY= all but the library. bindir, libdir, includedir, datadir, mandir and docdir
-#               can be set, each by itself, as the GNU standards have them
+#               (/usr/local), in DESTDIR if it is set; with LIBRARY= all but the library; with PYTHON=/usr/bin/python3 its module for Python too,
+#               among the modules of that one, or in pythondir. bindir, libdir, includedir, datadir, mandir and docdir can be set, each by
+#               itself, as the GNU standards have them
 # make uninstall      takes away what install puts
 # make faults   makes memory, reads and writes fail at each place of short runs, and compares how each run ends (needs strace)
 # make check-install  tries both in a folder of its own: the files, the man page, each shell's completions
 # make deb      builds the Debian packages of what install puts: ccsuite, libccsuite0 and libccsuite-dev, build/NAME_VERSION_ARCHITECTURE.deb
 # make check-deb      tries them in a folder of their own: lintian, what is installed, the program, and that nothing is left when they go
-# make check-lib      tries the library by C programs: against the program, byte for byte, with sanitizers, refused memory, threads (needs gcc)
+# make check-lib      tries the library by C programs: against the program, byte for byte, with sanitizers, refused memory, threads (needs gcc);
+#               and its module for Python
 # make scale    tries an archive of 50 parts, two of them with damage, by GNU parallel and by a one-node Slurm
 # make try      runs the commands of the manual, the cookbook and the man page and compares what they print; tries subtitles.py, video.py, and the
 #               viewer in a Chromium
@@ -32,6 +34,9 @@ docdir ?= $(datarootdir)/doc/ccsuite
 # the program and the library that install puts
 PROGRAM ?= build/ccsuite
 LIBRARY ?= build/libccsuite.a build/libccsuite.so
+# the Python whose modules have the library's, and where they are; none if it isn't told
+PYTHON ?=
+pythondir ?= $(if $(PYTHON),$(shell $(PYTHON) -c 'import sysconfig; print(sysconfig.get_path("purelib"))'))
 # where Debian's bash, zsh and fish look; a package's completions for zsh stand apart from those of this machine's own programs
 bashdir ?= $(datarootdir)/bash-completion/completions
 zshdir ?= $(datarootdir)/zsh/$(if $(filter /usr,$(prefix)),vendor-completions,site-functions)
@@ -121,6 +126,12 @@ bench: build/ccsuite $(LIBRARY)
 	bench/library.sh
 	bench/table.py
 
+# The module asks for the library where it is installed.
+define put_module
+sed 's|"libccsuite\.so\.0"|"$(libdir)/$(SONAME)"|' examples/python/ccsuite.py | install -D -m 644 /dev/stdin $(DESTDIR)$(pythondir)/ccsuite.py
+
+endef
+
 # $(call put_document,FILE,FOLDER)
 define put_document
 $(INSTALLED) $(1) | install -m 644 /dev/stdin $(DESTDIR)$(2)/$(notdir $(1))
@@ -128,7 +139,7 @@ $(INSTALLED) $(1) | install -m 644 /dev/stdin $(DESTDIR)$(2)/$(notdir $(1))
 endef
 
 define put_library
-install -d $(DESTDIR)$(libdir)/pkgconfig $(DESTDIR)$(includedir) $(DESTDIR)$(docdir)/examples/c
+install -d $(DESTDIR)$(libdir)/pkgconfig $(DESTDIR)$(includedir) $(addprefix $(DESTDIR)$(docdir)/examples/,c python)
 install -m 644 build/libccsuite.a $(DESTDIR)$(libdir)
 install -m 644 build/libccsuite.so $(DESTDIR)$(libdir)/$(SONAME).$(VERSION)
 ln -sf $(SONAME).$(VERSION) $(DESTDIR)$(libdir)/$(SONAME)
@@ -137,6 +148,8 @@ $(call put_document,library/ccsuite.h,$(includedir))
 sed 's|@PREFIX@|$(prefix)|; s|@LIBDIR@|$(libdir)|; s|@INCLUDEDIR@|$(includedir)|; s/@VERSION@/$(VERSION)/' library/ccsuite.pc \
     | install -m 644 /dev/stdin $(DESTDIR)$(libdir)/pkgconfig/ccsuite.pc
 install -m 644 $(wildcard examples/c/*) $(DESTDIR)$(docdir)/examples/c
+install -m 644 $(wildcard examples/python/*.py) $(DESTDIR)$(docdir)/examples/python
+$(if $(PYTHON),$(put_module))
 
 endef
 
@@ -160,7 +173,7 @@ uninstall:
 	    $(addprefix $(DESTDIR)$(mandir)/man1/,$(notdir $(wildcard man/*.1))) \
 	    $(foreach name,$(COMPLETED),$(DESTDIR)$(bashdir)/$(name) $(DESTDIR)$(zshdir)/_$(name) $(DESTDIR)$(fishdir)/$(name).fish) \
 	    $(DESTDIR)$(libdir)/libccsuite.a $(addprefix $(DESTDIR)$(libdir)/,libccsuite.so $(SONAME) $(SONAME).$(VERSION)) \
-	    $(DESTDIR)$(libdir)/pkgconfig/ccsuite.pc $(DESTDIR)$(includedir)/ccsuite.h
+	    $(DESTDIR)$(libdir)/pkgconfig/ccsuite.pc $(DESTDIR)$(includedir)/ccsuite.h $(if $(PYTHON),$(DESTDIR)$(pythondir)/ccsuite.py)
 	rm -rf $(DESTDIR)$(docdir) $(DESTDIR)$(datadir)/ccsuite
 
 check-install: $(PROGRAM) $(LIBRARY)

@@ -3,7 +3,8 @@
 #
 # Its whole runs and its handles, these in pieces of 1, 7 and 160 bytes and all at once, against PROGRAM, byte for byte, over ten lists and words of
 # each kind; the fields of its structs, closed handles, threads and refused memory (library/check/cases.c); with each of gcc, clang and g++ that is
-# there, against the archive and the shared library, with sanitizers, and with valgrind where that is there; and an installation, by pkg-config.
+# there, against the archive and the shared library, with sanitizers, and with valgrind where that is there; its module for Python, by the module's
+# tests; and an installation, by pkg-config and from Python.
 set -euo pipefail
 program=$(realpath "$1")
 cd "$(dirname "$0")/.."
@@ -151,8 +152,18 @@ echo "$(wc -l < "$work/told") calls; the archive needs: $undefined"
 
 objdump -p build/libccsuite.so | grep -q 'SONAME *libccsuite\.so\.0$' || fail 'the shared library has another soname'
 
+# From Python.
+export PYTHONDONTWRITEBYTECODE=1
+python=$(command -v /usr/bin/python3 || command -v python3 || true)
+modules=/usr/lib/python3/dist-packages
+if [ -n "$python" ]; then
+    (cd examples/python && CCSUITE_LIBRARY=../../build/libccsuite.so "$python" -m unittest) 2> "$work/err" || fail "$(cat "$work/err")"
+    echo "from Python: $(grep '^Ran' "$work/err")"
+fi
+
 # An installation.
-make --no-print-directory -o build/libccsuite.a -o build/libccsuite.so install PREFIX=/usr DESTDIR="$work/root" PROGRAM="$program" > /dev/null
+make --no-print-directory -o build/libccsuite.a -o build/libccsuite.so install PREFIX=/usr DESTDIR="$work/root" PROGRAM="$program" PYTHON="$python" \
+    pythondir="$modules" > /dev/null
 if command -v pkg-config > /dev/null; then
     words=$(PKG_CONFIG_PATH="$work/root/usr/lib/pkgconfig" PKG_CONFIG_SYSROOT_DIR="$work/root" pkg-config --cflags --libs ccsuite)
     # shellcheck disable=SC2086
@@ -160,5 +171,12 @@ if command -v pkg-config > /dev/null; then
     LD_LIBRARY_PATH="$work/root/usr/lib" "$work/encoder" examples/hello.csv | cmp - "$work/words/hello.words"
     echo 'installed, and found by pkg-config'
 fi
-make --no-print-directory uninstall PREFIX=/usr DESTDIR="$work/root" > /dev/null
+if [ -n "$python" ]; then
+    grep -q '"/usr/lib/libccsuite.so.0"' "$work/root$modules/ccsuite.py" || fail 'the module asks for another library'
+    CCSUITE_LIBRARY=$work/root/usr/lib/libccsuite.so.0 PYTHONPATH=$work/root$modules "$python" -c '
+import sys, ccsuite
+sys.stdout.buffer.write(ccsuite.build(open("examples/hello.csv").read()))' | cmp - "$work/words/hello.words"
+    echo 'installed, and found by Python'
+fi
+make --no-print-directory uninstall PREFIX=/usr DESTDIR="$work/root" PYTHON="$python" pythondir="$modules" > /dev/null
 [ -z "$(find "$work/root" -type f)" ] || fail "files are left: $(find "$work/root" -type f)"

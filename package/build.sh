@@ -1,8 +1,8 @@
 #!/usr/bin/env bash
 # Builds the Debian packages of what `make install` puts: build.sh PROGRAM PACKAGE [LIBRARY ..]
 #
-# PACKAGE is that of the program; with the files of the library there are those of libccsuite0, the shared library, and of libccsuite-dev beside it,
-# with the same version. The version is that of the first line of package/changes. Program and library are stripped of their symbols, and need the
+# PACKAGE is that of the program; with the files of the library there are those of libccsuite0, the shared library, of libccsuite-dev and of
+# python3-ccsuite beside it, with the same version. The version is that of the first line of package/changes. Program and library are stripped of their symbols, and need the
 # C library alone, as new as their symbols say; man pages are packed, as Debian wants it.
 set -euo pipefail
 program=$(realpath "$1")
@@ -63,9 +63,11 @@ pack_library() {
     strip --strip-debug --enable-deterministic-archives "$folder/all/$shared/libccsuite.a"
     move libccsuite0 "$shared/libccsuite.so.0" "$shared/libccsuite.so.0.$version"
     move libccsuite-dev "$shared"/{libccsuite.so,libccsuite.a,pkgconfig/ccsuite.pc} usr/include/ccsuite.h
-    mkdir -p "$folder/libccsuite-dev/usr/share/doc/libccsuite-dev/examples"
+    move python3-ccsuite usr/lib/python3/dist-packages/ccsuite.py
+    mkdir -p "$folder/libccsuite-dev/usr/share/doc/libccsuite-dev/examples" "$folder/python3-ccsuite/usr/share/doc/python3-ccsuite/examples"
     mv "$folder"/all/usr/share/doc/ccsuite/examples/c/* "$folder/libccsuite-dev/usr/share/doc/libccsuite-dev/examples"
-    rm -r "$folder/all/usr/lib" "$folder/all/usr/include" "$folder/all/usr/share/doc/ccsuite/examples/c"
+    mv "$folder"/all/usr/share/doc/ccsuite/examples/python/* "$folder/python3-ccsuite/usr/share/doc/python3-ccsuite/examples"
+    rm -r "$folder/all/usr/lib" "$folder/all/usr/include" "$folder"/all/usr/share/doc/ccsuite/examples/{c,python}
     mkdir "$folder/libccsuite0/DEBIAN"
     echo "libccsuite 0 libccsuite0 (>= $version)" > "$folder/libccsuite0/DEBIAN/shlibs"
     echo 'activate-noawait ldconfig' > "$folder/libccsuite0/DEBIAN/triggers"
@@ -86,9 +88,17 @@ Description: broadcast captions as a library, to build programs with
  The header of libccsuite, the library as an archive, and examples in C: an
  encoder's loop, a player's, and a check of words.
 EOF
+    pack python3-ccsuite << EOF
+Depends: libccsuite0 (= $version), python3 (>= 3.10)
+Section: python
+Description: broadcast captions in Python
+ The module ccsuite, by ctypes over libccsuite: the commands of ccsuite as
+ functions over bytes, and builders, receivers and verifiers of caption words.
+EOF
 }
 
-make --no-print-directory install PREFIX=/usr libdir="/$shared" DESTDIR="$folder/all" PROGRAM="$program" LIBRARY="$library" > /dev/null
+make --no-print-directory install PREFIX=/usr libdir="/$shared" DESTDIR="$folder/all" PROGRAM="$program" LIBRARY="$library" \
+    PYTHON=/usr/bin/python3 pythondir=/usr/lib/python3/dist-packages > /dev/null
 find "$folder/all" -name '*.1' -exec gzip -9n {} +
 [ -z "$library" ] || pack_library
 mv "$folder/all" "$folder/ccsuite"

@@ -17,9 +17,9 @@ version=$(sed -n '1s/.*(\(.*\)).*/\1/p' package/changes)
 as_root=()
 [ "$(id -u)" = 0 ] || as_root=(fakeroot)
 names=(ccsuite)
-[ -z "$library" ] || names=(libccsuite0 libccsuite-dev ccsuite)
+[ -z "$library" ] || names=(libccsuite0 libccsuite-dev python3-ccsuite ccsuite)
 packages=()
-for name in "${names[@]}"; do packages+=("${package%/*}/${name}_${package#*ccsuite_}"); done
+for name in "${names[@]}"; do packages+=("${package%/*}/${name}_${package##*ccsuite_}"); done
 
 fail() {
     echo "$1"
@@ -29,8 +29,10 @@ fail() {
 # The files that make install puts, and those that packages add: man pages are packed.
 wanted() {
     local libraries=/usr/lib/$(gcc -print-multiarch)
-    make --no-print-directory install PREFIX=/usr libdir="$libraries" DESTDIR="$folder/plain" PROGRAM="$program" LIBRARY="$library" > /dev/null
-    (cd "$folder/plain" && find . ! -type d -printf '/%P\n' | sed 's:\.1$:.1.gz:; s:doc/ccsuite/examples/c/:doc/libccsuite-dev/examples/:')
+    make --no-print-directory install PREFIX=/usr libdir="$libraries" DESTDIR="$folder/plain" PROGRAM="$program" LIBRARY="$library" \
+        PYTHON=/usr/bin/python3 pythondir=/usr/lib/python3/dist-packages > /dev/null
+    (cd "$folder/plain" && find . ! -type d -printf '/%P\n' | sed -e 's:\.1$:.1.gz:; s:doc/ccsuite/examples/c/:doc/libccsuite-dev/examples/:' \
+        -e 's:doc/ccsuite/examples/python/:doc/python3-ccsuite/examples/:')
     for name in "${names[@]}"; do printf "/usr/share/doc/$name/%s\n" changelog.gz copyright; done
 }
 
@@ -86,6 +88,7 @@ try_chroot() {
     diff <(wanted | sort -u) <(listed "$chroot" chroot "$chroot" dpkg) || fail 'other files'
     try_files chroot "$chroot"
     [ -z "$library" ] || chroot "$chroot" ldconfig -p | grep -q 'libccsuite\.so\.0' || fail 'ldconfig does not find the library'
+    [ -z "$library" ] || chroot "$chroot" python3 -Bc 'import ccsuite; print(ccsuite.load(1))' | grep -qx 'cues 1' || fail 'the module does not run'
     chroot "$chroot" dpkg -P "${names[@]}" > /dev/null
     rm -r "$chroot/packages"
     files_of | diff "$folder/before" - || fail 'files are left in the chroot'
