@@ -4,7 +4,8 @@
 #               the proofs and edits that passed there, of crates that are as they were, with all below them
 # make edits    tries the edits of edits/ too, of each crate, which takes hours: each must be refused; with CRATE=name those of one crate
 # make bench    measures each command, and cue lists, the receiver's frames, pairs and bytes of services by themselves, and puts the rows into bench/README.md
-# make lib      proves the library for C and builds it: build/libccsuite.a, in one file with what it needs of the kit, and build/libccsuite.so
+# make lib      proves the library for C and builds it: build/libccsuite.a, in one file with what it needs of the kit, and build/libccsuite.so; if
+#               GStreamer's headers are there, also an example of a plugin, which isn't proved: build/libgstccsuite.so
 # make install  puts the program, the library with its header, the man pages, completions, documents, examples and viewer under PREFIX
 #               (/usr/local), in DESTDIR if it is set; with LIBRARY= all but the library; with PYTHON=/usr/bin/python3 its module for Python too,
 #               among the modules of that one, or in pythondir. bindir, libdir, includedir, datadir, mandir and docdir can be set, each by
@@ -73,7 +74,10 @@ build/ccsuite: $(SOURCES)
 	@mkdir -p build
 	@docs/prove.py ccsuite $@ build/prove.log
 
-lib: build/libccsuite.a build/libccsuite.so
+# the plugin for GStreamer, if there are the headers for it
+GSTREAMER := $(shell pkg-config --exists gstreamer-base-1.0 2> /dev/null && echo build/libgstccsuite.so)
+
+lib: build/libccsuite.a build/libccsuite.so $(GSTREAMER)
 
 # The library's object with the kit's functions on malloc: it needs the C library alone.
 build/libccsuite.a: $(SOURCES)
@@ -89,6 +93,10 @@ build/libccsuite.so: build/libccsuite.a library/exports
 	@gcc -shared -o $@ -Wl,-soname,$(SONAME) -Wl,--version-script,library/exports -Wl,--no-undefined -Wl,--gc-sections \
 	    -Wl,--whole-archive $< -Wl,--no-whole-archive
 	@ln -sf libccsuite.so build/$(SONAME)
+
+build/libgstccsuite.so: examples/gstreamer/ccsuite.c build/libccsuite.a library/ccsuite.h
+	@gcc -std=gnu11 -O2 -Wall -Wextra -shared -fPIC -fvisibility=hidden -o $@ -Ilibrary $$(pkg-config --cflags gstreamer-base-1.0) $< build/libccsuite.a \
+	    $$(pkg-config --libs gstreamer-base-1.0) -Wl,--exclude-libs,ALL -Wl,--gc-sections -Wl,--no-undefined
 
 demo:
 	@$(FIND_RT)
@@ -139,7 +147,7 @@ $(INSTALLED) $(1) | install -m 644 /dev/stdin $(DESTDIR)$(2)/$(notdir $(1))
 endef
 
 define put_library
-install -d $(DESTDIR)$(libdir)/pkgconfig $(DESTDIR)$(includedir) $(addprefix $(DESTDIR)$(docdir)/examples/,c python)
+install -d $(DESTDIR)$(libdir)/pkgconfig $(DESTDIR)$(includedir) $(addprefix $(DESTDIR)$(docdir)/examples/,c python gstreamer)
 install -m 644 build/libccsuite.a $(DESTDIR)$(libdir)
 install -m 644 build/libccsuite.so $(DESTDIR)$(libdir)/$(SONAME).$(VERSION)
 ln -sf $(SONAME).$(VERSION) $(DESTDIR)$(libdir)/$(SONAME)
@@ -149,6 +157,7 @@ sed 's|@PREFIX@|$(prefix)|; s|@LIBDIR@|$(libdir)|; s|@INCLUDEDIR@|$(includedir)|
     | install -m 644 /dev/stdin $(DESTDIR)$(libdir)/pkgconfig/ccsuite.pc
 install -m 644 $(wildcard examples/c/*) $(DESTDIR)$(docdir)/examples/c
 install -m 644 $(wildcard examples/python/*.py) $(DESTDIR)$(docdir)/examples/python
+install -m 644 examples/gstreamer/ccsuite.c $(DESTDIR)$(docdir)/examples/gstreamer
 $(if $(PYTHON),$(put_module))
 
 endef
@@ -192,9 +201,10 @@ faults: $(PROGRAM)
 check-lib: $(PROGRAM) $(LIBRARY)
 	library/check.sh $(PROGRAM)
 
-try: $(PROGRAM) $(LIBRARY)
+try: $(PROGRAM) $(LIBRARY) $(GSTREAMER)
 	docs/try.py $(PROGRAM)
 	examples/c/try.sh $(PROGRAM)
+	examples/gstreamer/try.py $(PROGRAM)
 	docs/try_subtitles.py $(PROGRAM)
 	docs/try_video.py $(PROGRAM)
 	viewer/try.py $(PROGRAM)

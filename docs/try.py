@@ -3,9 +3,9 @@
 
 In a block of the kind `console`, a line that begins with `$ ` is a command, `> ` goes on with it, and the lines below are what it prints, to
 standard output and error. The commands of a document are run by one bash, in a folder of its own with the folder examples/ in it, where
-`ccsuite` is PROGRAM, and `ccsuite-subtitles` the script that is installed so. A word behind `console` names a program that the block needs, or a
-package of Debian's Python (`python3-gi`): where that isn't installed, the block is passed over. `libccsuite.so` is build/libccsuite.so, which the
-commands find.
+`ccsuite` is PROGRAM, and `ccsuite-subtitles` the script that is installed so. A word after `console` names a program that the block needs, a
+package of Debian's Python (`python3-gi`) or an element of GStreamer (`x264enc`): if that isn't installed, the block is passed over.
+`libccsuite.so` is build/libccsuite.so, which the commands find, and libgstccsuite.so, which GStreamer finds, is beside it.
 """
 
 import pathlib
@@ -42,9 +42,11 @@ def is_installed(name):
     if name.startswith("python3-"):
         words = [PYTHON, "-c", f"import {name.removeprefix('python3-')}"]
         return bool(shutil.which(PYTHON)) and subprocess.run(words, stderr=subprocess.DEVNULL).returncode == 0
-    if name == "libccsuite.so":
+    if name in ("libccsuite.so", "libgstccsuite.so"):
         return (TOP / "build" / name).exists()
-    return bool(shutil.which(name))
+    if shutil.which(name) or not shutil.which("gst-inspect-1.0"):
+        return bool(shutil.which(name))
+    return subprocess.run(["gst-inspect-1.0", "--exists", name]).returncode == 0
 
 
 def blocks_of(document):
@@ -68,7 +70,7 @@ def run(commands, program):
         (home / ".bin" / "ccsuite-subtitles").symlink_to(home / "examples" / "subtitles.py")
         # Each command sees the status of the one before.
         lines = [f"{command}\n{{ status=$?; echo '{MARK}'; (exit $status); }}\n" for command, _ in commands]
-        script = f"exec 2>&1\nPATH={home}/.bin:$PATH\nexport LD_LIBRARY_PATH={TOP}/build\n" + "".join(lines)
+        script = f"exec 2>&1\nPATH={home}/.bin:$PATH\nexport LD_LIBRARY_PATH={TOP}/build GST_PLUGIN_PATH={TOP}/build\n" + "".join(lines)
         ran = subprocess.run(["bash", "-c", script], cwd=home, stdout=subprocess.PIPE, text=True, timeout=600)
         return ran.stdout.split(f"{MARK}\n")
 

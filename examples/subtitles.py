@@ -1,17 +1,17 @@
 #!/usr/bin/python3
 """Subtitles to a cue list that has room: subtitles.py [FILE] > LIST
 
-FILE (else standard input) is WebVTT where its first line says so, else SRT. Each subtitle becomes a pop-on caption on CC1, or wherever --on says: CC1,
-CC3, and windows of the services S1 to S6. It is shown at its time, or, where its codes can't be sent before that, as few frames later as they need, at
+FILE (else standard input) is WebVTT if its first line says so, else SRT. Each subtitle becomes a pop-on caption on CC1, or wherever --on says: CC1,
+CC3, and windows of the services S1 to S6. It is shown at its time, or, if its codes can't be sent before that, as few frames later as they need, at
 most --late.
 
-Lines of more than 32 columns are broken anew, at spaces, into as few rows as do and about as long; a block of rows stands in the middle, its last row in
-row 15 or --row, or where {\\an1} to {\\an9} and WebVTT's line, position and align have it. Italics, underline and colours are kept as far as there are
-pens. Subtitles that begin in one moment are one caption, and one that is shown when the next begins gives way. What is dropped, replaced or moved is
-told in standard error, each kind once, with a count and its first place.
+Lines of more than 32 columns are broken anew, at spaces, into as few rows as do and about as long. A block of rows stands in the middle, its last row
+in row 15 or --row, or where {\\an1} to {\\an9} and WebVTT's line, position and align have it. Italics, underline and colours are kept as far as there
+are pens. Subtitles that begin in one moment are one caption, and one that is shown when the next begins gives way. What is dropped, replaced or moved
+is told in standard error, each kind once, with its first place, and in how many subtitles it is.
 
-Nothing is written where FILE can't be read (status 1), has letters for which a system has nothing like them (1; --replace shows ? instead), or where
-`ccsuite fit`, which looks for the times, refuses the list (its status); standard error names the line.
+Nothing is written if FILE can't be read (status 1), if it has letters that a system has nothing like (1; --replace shows ? instead), or if
+`ccsuite fit`, which looks for the times, refuses the list (its status). Standard error names the line.
 """
 
 import argparse
@@ -35,7 +35,7 @@ NAME = pathlib.Path(sys.argv[0]).name
 RATES = {"29.97": Fraction(30000, 1001), "30": Fraction(30), "59.94": Fraction(60000, 1001), "60": Fraction(60)}
 COLUMNS, ROWS, WINDOW_ROWS = 32, 15, 12
 USAGE, NO_ROOM = 1, 8
-# What stands for a character that a system lacks, where taking its accents away doesn't do.
+# What stands for a character that a system lacks, if taking its accents away doesn't do.
 NEAREST = {
     "‘": "'", "’": "'", "‚": ",", "‛": "'", "`": "'", "´": "'", "“": '"', "”": '"', "„": '"', "‟": '"', "‹": "<", "›": ">", "–": "-", "—": "-",
     "―": "-", "‐": "-", "‑": "-", "−": "-", "·": ".", "⁄": "/", "♫": "♪", "♬": "♪", "♩": "♪", "€": "EUR", "×": "x", "œ": "oe", "Œ": "OE",
@@ -144,9 +144,9 @@ def cues_of_srt(lines, name):
     for number, line in enumerate(lines[:at[0] if at else None], 1):
         if line.strip() and not line.strip().isdigit():
             refuse(f"{name} line {number}: “{line.strip()[:40]}” is neither the number nor the times of a subtitle")
-    for number, behind in itertools.zip_longest(at, at[1:]):
-        text = lines[number + 1:behind]
-        if behind and text and text[-1].strip().isdigit():
+    for number, after in itertools.zip_longest(at, at[1:]):
+        text = lines[number + 1:after]
+        if after and text and text[-1].strip().isdigit():
             text.pop()
         yield number + 1, times_of(lines[number], number + 1, name), text
 
@@ -176,7 +176,7 @@ def colour_of(name):
 
 
 class Reader:
-    """Reads the markup of a subtitle's text: letters with their marks, and its place where the text has one."""
+    """Reads the markup of a subtitle's text: letters with their marks, and its place if the text has one."""
 
     def __init__(self, line, place, row, is_vtt, notes):
         self.line, self.place, self.row, self.is_vtt, self.notes = line, place, row, is_vtt, notes
@@ -448,7 +448,7 @@ def pen_colour(colour, line, notes):
 
 
 def line21_pens(word, line, notes):
-    """The letters of a word with line 21's pens. Where the pen is a code that takes a cell, the word has it as a whole."""
+    """The letters of a word with line 21's pens. If the pen is a code that takes a cell, the word has it as a whole."""
     colour = next((marks.colour for _, marks in word if marks.colour), None)
     pen = pen_colour(colour, line, notes) if colour else "white"
     italic = any(marks.italic for _, marks in word)
@@ -574,10 +574,10 @@ class Lane:
                 notes.add(it.line, "subtitles that begin together are one caption")
             else:
                 groups.append([it])
-        for group, behind in itertools.zip_longest(groups, groups[1:]):
+        for group, after in itertools.zip_longest(groups, groups[1:]):
             show = self.frame_of(group[0].start)
             hide = max(show + least, *(self.frame_of(it.end) for it in group))
-            limit = self.frame_of(behind[0].start) if behind else hide + least
+            limit = self.frame_of(after[0].start) if after else hide + least
             if hide > limit:
                 notes.add(group[0].line, "a subtitle is hidden where the next one begins")
             yield show, limit if hide > limit - least else hide, group

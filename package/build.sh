@@ -65,7 +65,8 @@ pack_library() {
     move libccsuite-dev "$shared"/{libccsuite.so,libccsuite.a,pkgconfig/ccsuite.pc} usr/include/ccsuite.h
     move python3-ccsuite usr/lib/python3/dist-packages/ccsuite.py
     mkdir -p "$folder/libccsuite-dev/usr/share/doc/libccsuite-dev/examples" "$folder/python3-ccsuite/usr/share/doc/python3-ccsuite/examples"
-    mv "$folder"/all/usr/share/doc/ccsuite/examples/c/* "$folder/libccsuite-dev/usr/share/doc/libccsuite-dev/examples"
+    mv "$folder"/all/usr/share/doc/ccsuite/examples/c/* "$folder"/all/usr/share/doc/ccsuite/examples/gstreamer \
+        "$folder/libccsuite-dev/usr/share/doc/libccsuite-dev/examples"
     mv "$folder"/all/usr/share/doc/ccsuite/examples/python/* "$folder/python3-ccsuite/usr/share/doc/python3-ccsuite/examples"
     rm -r "$folder/all/usr/lib" "$folder/all/usr/include" "$folder"/all/usr/share/doc/ccsuite/examples/{c,python}
     mkdir "$folder/libccsuite0/DEBIAN"
@@ -86,7 +87,7 @@ Suggests: ccsuite
 Section: libdevel
 Description: broadcast captions as a library, to build programs with
  The header of libccsuite, the library as an archive, and examples in C: an
- encoder's loop, a player's, and a check of words.
+ encoder's loop, a player's, a check of words, and two elements for GStreamer.
 EOF
     pack python3-ccsuite << EOF
 Depends: libccsuite0 (= $version), python3 (>= 3.10)

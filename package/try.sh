@@ -32,6 +32,7 @@ wanted() {
     make --no-print-directory install PREFIX=/usr libdir="$libraries" DESTDIR="$folder/plain" PROGRAM="$program" LIBRARY="$library" \
         PYTHON=/usr/bin/python3 pythondir=/usr/lib/python3/dist-packages > /dev/null
     (cd "$folder/plain" && find . ! -type d -printf '/%P\n' | sed -e 's:\.1$:.1.gz:; s:doc/ccsuite/examples/c/:doc/libccsuite-dev/examples/:' \
+        -e 's:doc/ccsuite/examples/gstreamer/:doc/libccsuite-dev/examples/gstreamer/:' \
         -e 's:doc/ccsuite/examples/python/:doc/python3-ccsuite/examples/:')
     for name in "${names[@]}"; do printf "/usr/share/doc/$name/%s\n" changelog.gz copyright; done
 }

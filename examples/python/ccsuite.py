@@ -237,7 +237,7 @@ def _channel(name: str) -> int:
 
 
 def _run(name: str, *given: Text, more: tuple[Any, ...] = ()) -> bytes:
-    """What a whole run writes. It is run again with four times the room where there was too little."""
+    """What a whole run writes. It is run again with four times the room if there was too little."""
     inputs = [_bytes_of(it) for it in given]
     words = [part for it in inputs for part in (_address_of(it), len(it))]
     size, status, report = 4 * sum(map(len, inputs)) + (1 << 16), Status.ROOM, _Report()

@@ -136,7 +136,7 @@ class Handles(unittest.TestCase):
             self.assertEqual(receiver.cell("CC1", 15, 1), Cell("I", "white", False, False))
             self.assertIsNone(receiver.cell("CC1", 15, 2))
             self.assertIsNone(receiver.cell("CC2", 15, 0))
-            self.assertEqual(receiver.screens(), "CC1 1\n15 0 white HI\n")
+            self.assertEqual(receiver.screens(), "frame 7\nCC1 1\n15 0 white HI\n")
             self.assertRaises(ValueError, receiver.cell, "CC1", 16, 0)
             self.assertRaises(ValueError, receiver.cell, "CC9", 15, 0)
             error = refused(self, Status.MALFORMED, receiver.finish)
@@ -165,7 +165,7 @@ class Handles(unittest.TestCase):
         with ccsuite.Receiver() as receiver:
             error = refused(self, Status.MALFORMED, receiver.feed, (LISTS / "damaged.words").read_bytes())
             self.assertEqual((str(error), error.reason, error.place), ("malformed at byte 1628: Count", "Count", 1628))
-            self.assertEqual(receiver.screens(), "CC1 1\n15 0 white HI\n")
+            self.assertEqual(receiver.screens(), "frame 9\nCC1 1\n15 0 white HI\n")
             refused(self, Status.MALFORMED, receiver.feed, b"\0")
 
     def test_concealing(self):
@@ -173,7 +173,7 @@ class Handles(unittest.TestCase):
         with ccsuite.Receiver(conceals=True) as receiver:
             receiver.feed(words[:12 * 160])
             self.assertEqual(list(receiver.frames(words[15 * 160:16 * 160])), [Frame(15, 3, 13)])
-            self.assertEqual(receiver.screens(), "")
+            self.assertEqual(receiver.screens(), "frame 15\n")
 
     def test_verifier(self):
         words = ccsuite.build(HELLO)
