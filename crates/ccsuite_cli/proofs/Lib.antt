@@ -4,6 +4,7 @@ mod ConvertedLemmas
 mod FilledLemmas
 mod LineLemmas
 mod SeenLemmas
+mod SeenAgainLemmas
 mod SizeLemmas
 mod VerdictLemmas
 mod VerifiedLemmas

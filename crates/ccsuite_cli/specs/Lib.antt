@@ -3,6 +3,7 @@ pub mod Answer
 pub mod Command
 pub mod Converted
 pub mod Seen
+pub mod SeenAgain
 pub mod StatusLine
 pub mod Verdict
 pub mod Verified

@@ -1,6 +1,7 @@
 //! Laws of what a run answers and puts: functions that do nothing, with the laws as their contracts.
 ghost use Rattle.ccsuite_cli.specs.Converted.{BuiltWordsAreFit};
 ghost use Rattle.ccsuite_cli.specs.Seen.{BuiltWordsAreSeen, DualWordsAreSeen, InsertedWordsAreSeen};
+ghost use Rattle.ccsuite_cli.specs.SeenAgain.{AllFramesAreBuilt, BuiltWordsAreSeenAgain, DeliveredIsUnrefused};
 ghost use Rattle.ccsuite_cli.specs.Verdict.{AcceptedIsAnswered, FaultsAreTold, FileIsDecoded, FileIsShown, GoodListIsWritten, LoadIsAnswered, LongWordsAreRefused, MalformedIsRefused, RefusedImportIsAnswered, RefusedListIsAnswered, SccFileIsImported};
 ghost use Rattle.ccsuite_cli.specs.Verified.{BuiltWordsAreVerified, XdsWordsAreVerified};
 ghost use Rattle.scc_commands.specs.ExportVerdict.{FileIsExported, MalformedIsNotExported, StopIsAnswered};
@@ -105,6 +106,16 @@ pub fn inserted_words_are_seen()
 /// was filled.
 pub fn dual_words_are_seen()
     ensures { DualWordsAreSeen }
+{}
+
+/// The law that what is authored is seen again where a line loses whole frames of the words that `build` puts of an accepted cue list, fewer
+/// than 65,536 in a row. A concealing receiver that was fed any front of the words of those that came, cut anywhere, has refused none of
+/// them. At the last frame that it counts it shows what is authored on each channel and in each service that is in step there. The words of
+/// all frames are those that `build` puts.
+pub fn built_words_are_seen_again()
+    ensures whole { AllFramesAreBuilt }
+    ensures unrefused { DeliveredIsUnrefused }
+    ensures seen { BuiltWordsAreSeenAgain }
 {}
 
 /// The law that the words that `build` puts of an accepted cue list are verified against that list: a words file within the limit,

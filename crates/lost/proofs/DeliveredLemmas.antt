@@ -103,3 +103,9 @@ module _ (rate : Rate) (columns : Columns) where
       ∙ ap reverse
       (ap heard_back (turned 0 (suc frame) ∙ sym (append-nil (back 0 (suc frame)))) ∙ heard_on 0 frame [] refl ∙ sym (turned 0 (suc frame)))
       ∙ reverse-reverse (column_packets rate columns 0 (suc frame))
+
+-- the first of frames that came in order did
+pub front_delivered : (first later : List ℕ) → AreDelivered (first ++ later) → AreDelivered first
+front_delivered [] later are = tt
+front_delivered (k ∷ []) later are = tt
+front_delivered (k ∷ (l ∷ first)) later are = (are.0, are.1, front_delivered (l ∷ first) later are.2)

@@ -1,3 +1,5 @@
+pub use Rattle.cc_conceal.specs.Concealers
+pub use Rattle.cc_conceal.specs.declared.concealer.Concealer
 pub mod ChannelLoss
 pub mod ChannelExamples
 pub mod WindowLoss
