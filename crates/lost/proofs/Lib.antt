@@ -15,3 +15,4 @@ pub mod WordsLemmas
 pub mod FrameLossLemmas
 pub mod ConcealerLemmas
 pub mod NumberLemmas
+pub mod StepExampleLemmas

@@ -7,3 +7,4 @@ pub mod WindowExamples
 pub mod Delivered
 pub mod Recovered
 pub mod Numbers
+pub mod StepExamples

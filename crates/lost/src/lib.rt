@@ -4,4 +4,5 @@
 
 pub mod channel_laws;
 pub mod laws;
+pub mod step_laws;
 pub mod window_laws;
