@@ -1,5 +1,6 @@
 mod CleanLemmas
 mod CommandLemmas
+mod ConcealedLemmas
 mod ConvertedLemmas
 mod FilledLemmas
 mod LineLemmas

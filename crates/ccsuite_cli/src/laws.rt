@@ -1,7 +1,7 @@
 //! Laws of what a run answers and puts: functions that do nothing, with the laws as their contracts.
 ghost use Rattle.ccsuite_cli.specs.Converted.{BuiltWordsAreFit};
 ghost use Rattle.ccsuite_cli.specs.Seen.{BuiltWordsAreSeen, DualWordsAreSeen, InsertedWordsAreSeen};
-ghost use Rattle.ccsuite_cli.specs.SeenAgain.{AllFramesAreBuilt, BuiltWordsAreSeenAgain, DeliveredIsUnrefused};
+ghost use Rattle.ccsuite_cli.specs.SeenAgain.{AllFramesAreBuilt, BuiltWordsAreSeenAgain, DeliveredIsConcealed, DeliveredIsUnrefused};
 ghost use Rattle.ccsuite_cli.specs.Verdict.{AcceptedIsAnswered, FaultsAreTold, FileIsDecoded, FileIsShown, GoodListIsWritten, LoadIsAnswered, LongWordsAreRefused, MalformedIsRefused, RefusedImportIsAnswered, RefusedListIsAnswered, SccFileIsImported};
 ghost use Rattle.ccsuite_cli.specs.Verified.{BuiltWordsAreVerified, XdsWordsAreVerified};
 ghost use Rattle.scc_commands.specs.ExportVerdict.{FileIsExported, MalformedIsNotExported, StopIsAnswered};
@@ -116,6 +116,13 @@ pub fn built_words_are_seen_again()
     ensures whole { AllFramesAreBuilt }
     ensures unrefused { DeliveredIsUnrefused }
     ensures seen { BuiltWordsAreSeenAgain }
+{}
+
+/// The law that `conceal` answers an input that is the words of whatever frames of an accepted cue list came, in order and with fewer than
+/// 65,536 missing in a row, with Ok, or Memory, where neither count of faults rose; and that for Ok it put the changes of the screens and
+/// windows that a concealing receiver shows of these frames, with the lines of the missing ones.
+pub fn delivered_words_are_concealed()
+    ensures { DeliveredIsConcealed }
 {}
 
 /// The law that the words that `build` puts of an accepted cue list are verified against that list: a words file within the limit,
