@@ -1,14 +1,14 @@
 -- The verdict on a cue list and packets, and what `xds` answers by it.
-use Rattle.std.proofs.Common.{◌≡◌, ◌∙◌, ◌⊎◌, ℕ, List, Ok, Err, ap, inl, inr, refl, sym, subst}
+use Rattle.std.proofs.Common.{◌≡◌, ◌∙◌, ◌⊎◌, ℕ, List, None, Ok, Option, Some, Err, ap, inl, inr, refl, sym, subst}
 use Rattle.command_base.specs.Ends.{Ends}
 use Rattle.command_base.specs.WholeInput.{ReadsInput}
 use Rattle.command_base.specs.declared.status.Status.{Status}
 use Rattle.command_base.specs.declared.status.Status.TheVariants as status
 use Rattle.command_base.proofs.CountLemmas.{same_told}
-use Rattle.cue_list_commands.specs.Accepted.{IsRefused, SpellGoodList}
+use Rattle.cue_list_commands.specs.Accepted.{IsAccepted, IsRefused, SpellGoodList}
 use Rattle.cue_list_commands.specs.SideEnds.{SideEnds}
 use Rattle.cue_list_commands.specs.SideLists.{IsSideOf, RefusedSideIsAnswered, TellsAllFaults}
-use Rattle.cue_list_commands.proofs.ListVerdictLemmas.{accepted_not_refused as list_not_refused, good_once, refused_once as list_refused_once}
+use Rattle.cue_list_commands.proofs.ListVerdictLemmas.{accepted_not_refused as list_not_refused, every_list_judged, good_once, refused_once as list_refused_once}
 use Rattle.cue_list_commands.proofs.SideLemmas.{of_side, side_kept, side_refused, side_told}
 use Rattle.cue_lists.specs.Listing.{Listing}
 use Rattle.frame_scheduler.proofs.LanesLemmas.{one_placement}
@@ -17,14 +17,16 @@ use Rattle.command_base.proofs.MakesLemmas.{made_accepted, made_refused, made_to
 use Rattle.frame_carrier.specs.Framing.{words_of}
 use Rattle.xds_frames.specs.XdsFrames.{HasXdsRoom, IsFirstWithoutXdsRoom}
 use Rattle.xds_commands.specs.PacketLists.{IsGoodPackets, IsRefusedPackets}
-use Rattle.xds_commands.specs.PlacedPackets.{IsPlacedWith, IsXdsRefusal}
+use Rattle.xds_commands.specs.PlacedPackets.{IsPlacedWith, IsXdsRefusal, PlacedPackets}
 use Rattle.xds_commands.specs.XdsAnswer.{XdsAnswer}
 use Rattle.command_base.specs.MakesAnswer.{MakesAnswer}
-use Rattle.xds_commands.specs.XdsVerdict.{AcceptedIsNotRefused, PlacedIsAnswered, RefusalIsOne, RefusedIsAnswered}
+use Rattle.xds_commands.specs.XdsVerdict.{AcceptedIsNotRefused, EveryListIsJudged, PlacedIsAnswered, RefusalIsOne, RefusedIsAnswered}
 use Rattle.xds_commands.specs.XdsWords.{IsSoundXds, xds_framing}
 use Rattle.xds_commands.specs.declared.xds_of.XdsOf.{XdsOf}
 use Rattle.xds_commands.proofs.PacketListLemmas.{good_not_refused, packets_once, packets_refused_once}
 use Rattle.xds_frames.proofs.FrontLemmas.{one_lacks_room, room_lacks_none}
+use Rattle.xds_frames.proofs.ListPacketsLemmas.{room_judged}
+use Rattle.xds_frames.specs.ListPackets.{TellsXdsRoom}
 use Rattle.xds_frames.specs.PlanAnswer.{LacksXdsRoom}
 use Rattle.xds_packets.specs.Sending.{Listed}
 
@@ -72,6 +74,32 @@ same_status listed bytes one other (inr refused) (inr again) = list_refused_once
 
 pub refused_once : RefusalIsOne
 refused_once listed bytes one other refused again = same_status listed bytes one other (cause_of listed bytes one refused) (cause_of listed bytes other again)
+
+-- with any packets every list is accepted or refused
+abbrev Judged : List Listed → List ℕ → Type 0
+Judged listed bytes = ((made : PlacedPackets) × IsPlacedWith listed bytes made) ⊎ ((answer : Status) × IsXdsRefusal listed bytes answer)
+
+-- one that is placed, by its room
+by_room : (listed : List Listed) (bytes : List ℕ) (list : Listing) (placed : Placement) → IsAccepted bytes list placed
+    → (number : Option ℕ) → TellsXdsRoom list placed listed number → Judged listed bytes
+by_room listed bytes list placed accepted None room =
+    inl (record { list = list; placed = placed; listed = listed }, record { accepted = accepted; listed_are = refl; room = room })
+by_room listed bytes list placed accepted (Some number) lacks = inr (
+  status.NoXdsRoom number,
+  record { list = list; good = accepted.good; holds = record { placed = placed; placed_is = accepted.placement; first = lacks } },
+)
+
+by_refusal : (listed : List Listed) (bytes : List ℕ) (answer : Status) → IsRefused bytes answer → Judged listed bytes
+by_refusal listed bytes (status.NoXdsRoom packet) refused = absurd refused
+by_refusal listed bytes answer refused = inr (answer, refused)
+
+pub every_judged : EveryListIsJudged
+every_judged listed bytes = elim (every_list_judged bytes) [
+  | inl accepted ↦
+      let room = room_judged accepted.0 accepted.1 listed in
+      by_room listed bytes accepted.0 accepted.1 accepted.2 room.0 room.1
+  | inr refused ↦ by_refusal listed bytes refused.0 refused.1
+]
 
 -- the command has the packets of these bytes, and answers so of the cue list with them
 abbrev IsOfPackets : List ℕ → XdsOf → Type 0

@@ -22,6 +22,11 @@ AcceptedIsNotRefused = (listed : List Listed) (bytes : List ℕ) (made : PlacedP
 abbrev pub RefusalIsOne : Type 0
 RefusalIsOne = (listed : List Listed) (bytes : List ℕ) (one other : Status) → IsXdsRefusal listed bytes one → IsXdsRefusal listed bytes other → one ≡ other
 
+-- with any packets all bytes are accepted or refused
+abbrev pub EveryListIsJudged : Type 0
+EveryListIsJudged = (listed : List Listed) (bytes : List ℕ)
+    → ((made : PlacedPackets) × IsPlacedWith listed bytes made) ⊎ ((answer : Status) × IsXdsRefusal listed bytes answer)
+
 -- where no count of faults rose, a list that is accepted with good packets is answered Ok, or want of memory
 abbrev pub PlacedIsAnswered : Type 0
 PlacedIsAnswered = (text bytes : List ℕ) (listed : List Listed) (made : PlacedPackets) (side later : SideEnds) (old new : Ends) (answer : Status)

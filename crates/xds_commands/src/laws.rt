@@ -3,7 +3,7 @@
 ghost use Rattle.cue_list_commands.specs.SideLists.{RefusedSideIsAnswered};
 ghost use Rattle.xds_commands.specs.PacketLists.{IsRefusedPackets};
 ghost use Rattle.xds_commands.specs.XdsAnswer.{XdsAnswer};
-ghost use Rattle.xds_commands.specs.XdsVerdict.{AcceptedIsNotRefused, PlacedIsAnswered, RefusalIsOne, RefusedIsAnswered};
+ghost use Rattle.xds_commands.specs.XdsVerdict.{AcceptedIsNotRefused, EveryListIsJudged, PlacedIsAnswered, RefusalIsOne, RefusedIsAnswered};
 ghost use Rattle.xds_commands.specs.XdsWords.{NoPacketsAreBuilt};
 
 /// The law that a cue list beside whose captions packets have room is refused with no status.
@@ -14,6 +14,11 @@ pub fn accepted_is_not_refused()
 /// The law that a cue list which is refused with packets is refused with one status alone.
 pub fn refusal_is_one()
     ensures { RefusalIsOne }
+{}
+
+/// The law that with any packets every cue list is accepted or refused, whatever its bytes.
+pub fn every_list_is_judged()
+    ensures { EveryListIsJudged }
 {}
 
 /// The law that `xds` answers packets and a cue list beside whose captions they have room with Ok, or Memory, where no count of faults
