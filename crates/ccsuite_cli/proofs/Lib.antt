@@ -9,3 +9,4 @@ mod SeenAgainLemmas
 mod SizeLemmas
 mod VerdictLemmas
 mod VerifiedLemmas
+mod XdsSeenLemmas

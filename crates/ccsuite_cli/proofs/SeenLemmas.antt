@@ -89,7 +89,7 @@ words_seen IsTold grids windows packets file words rest receiver frame is_file s
     }
 
 -- of one list
-list_seen : (list : Listing) (packets : List Frame) (file words rest : List ℕ) (receiver : Receiver) (frame : ℕ) → IsFileUnder caption_channel packets file
+pub list_seen : (list : Listing) (packets : List Frame) (file words rest : List ℕ) (receiver : Receiver) (frame : ℕ) → IsFileUnder caption_channel packets file
     → ShowsFrames (list_told list) (list_grids list) (list_windows list) (length packets) packets → BuffersNeverFill packets → file ≡ words ++ rest
     → HasReceived words receiver → frame_count receiver ≡ frame + 1 → IsSeenAsAuthored list frame words receiver
 list_seen list packets file words rest receiver frame is_file shows fills spelled had counted =

@@ -1,5 +1,5 @@
 -- Between crates: the program's answer stands on none of these definitions.
--- From the words that `build` puts of a cue list, `insert` with its captions, or `dual` of two lists, to the screens and the services of
+-- From the words that `build` puts of a cue list, `xds` with packets, `insert` with its captions, or `dual` of two lists, to the screens and the services of
 -- a receiver that is fed them: what is authored is what is seen, on line 21 and in the services.
 use Rattle.std.specs.Prelude.{◌≡◌, ◌++◌, ◌+◌, ◌<◌, ◌≤◌, ℕ, false, length, List, ◌∷◌}
 use Rattle.cue_lists.specs.AuthoredServiceGrid.{authored_windows}
@@ -23,6 +23,9 @@ use Rattle.frame_carrier.specs.Framing.{words_of}
 use Rattle.insert_commands.specs.Captions.{captions_of}
 use Rattle.insert_commands.specs.InsertedFile.{AreInserted}
 use Rattle.insert_commands.specs.Soundness.{HaveRate}
+use Rattle.xds_commands.specs.PacketLists.{IsGoodPackets}
+use Rattle.xds_commands.specs.PlacedPackets.{IsPlacedWith, PlacedPackets}
+use Rattle.xds_commands.specs.XdsWords.{xds_framing}
 
 -- a receiver that was fed these words shows what a list authors at a frame: the authored grids on CC1 and CC3, where the frame is
 -- settled for the channel, nothing on CC2 and CC4, and of each service the authored windows; and in no frame of the words the
@@ -43,6 +46,12 @@ abbrev pub BuiltWordsAreSeen : Type 0
 BuiltWordsAreSeen = (bytes : List ℕ) (list : Listing) (placed : Placement) (words rest : List ℕ) (receiver : Receiver) (frame : ℕ)
     → IsAccepted bytes list placed → build_output list placed ≡ words ++ rest → HasReceived words receiver → frame_count receiver ≡ frame + 1
     → IsSeenAsAuthored list frame words receiver
+
+-- so does one that was fed a front of what `xds` puts of one with good packets beside whose captions they have room
+abbrev pub XdsWordsAreSeen : Type 0
+XdsWordsAreSeen = (text bytes : List ℕ) (made : PlacedPackets) (words rest : List ℕ) (receiver : Receiver) (frame : ℕ)
+    → IsGoodPackets text made.listed → IsPlacedWith made.listed bytes made → words_of (xds_framing made) ≡ words ++ rest → HasReceived words receiver
+    → frame_count receiver ≡ frame + 1 → IsSeenAsAuthored made.list frame words receiver
 
 -- so does one that was fed a front of what `insert` puts of a words file with the captions of an accepted list, where the file's frames have the
 -- list's rate and are as many as it has, at least; and behind the list's end what it shows stays

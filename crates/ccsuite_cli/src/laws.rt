@@ -1,6 +1,6 @@
 //! Laws of what a run answers and puts: functions that do nothing, with the laws as their contracts.
 ghost use Rattle.ccsuite_cli.specs.Converted.{BuiltWordsAreFit};
-ghost use Rattle.ccsuite_cli.specs.Seen.{BuiltWordsAreSeen, DualWordsAreSeen, InsertedWordsAreSeen};
+ghost use Rattle.ccsuite_cli.specs.Seen.{BuiltWordsAreSeen, DualWordsAreSeen, InsertedWordsAreSeen, XdsWordsAreSeen};
 ghost use Rattle.ccsuite_cli.specs.SeenAgain.{AllFramesAreBuilt, BuiltWordsAreSeenAgain, DeliveredIsConcealed, DeliveredIsUnrefused};
 ghost use Rattle.ccsuite_cli.specs.Verdict.{AcceptedIsAnswered, FaultsAreTold, FileIsDecoded, FileIsShown, GoodListIsWritten, LoadIsAnswered, LongWordsAreRefused, MalformedIsRefused, RefusedImportIsAnswered, RefusedListIsAnswered, SccFileIsImported};
 ghost use Rattle.ccsuite_cli.specs.Verified.{BuiltWordsAreVerified, XdsWordsAreVerified};
@@ -91,6 +91,13 @@ pub fn faults_are_told()
 /// the authored windows; and no service's buffer was filled.
 pub fn built_words_are_seen()
     ensures { BuiltWordsAreSeen }
+{}
+
+/// The law that so it is seen beside packets of extended data: a receiver that was fed any front of the words that `xds` puts of an accepted
+/// cue list with good packets beside whose captions they have room, cut anywhere, shows what is authored at the last frame that it counts;
+/// and no service's buffer was filled.
+pub fn xds_words_are_seen()
+    ensures { XdsWordsAreSeen }
 {}
 
 /// The law that so it is seen where it is inserted: a receiver that was fed any front of what `insert` puts of a words file with the
