@@ -88,7 +88,7 @@ built_seen_again bytes list placed earlier frame later words rest receiver accep
     let first : List ℕ = earlier ++ frame ∷ [] in
     let split : earlier ++ frame ∷ later ≡ first ++ later = sym (append_assoc earlier (frame ∷ []) later) in
     let long = length-append earlier (frame ∷ []) in
-    let seen = concealer_shows list placed formed ruled accepted.placement first frame (front_delivered first later (subst AreDelivered split delivered)) receiver
+    let seen = concealer_shows list placed formed ruled accepted.placement earlier frame (front_delivered first later (subst AreDelivered split delivered)) receiver
     (front_conceals list placed formed ruled accepted.placement first later words rest receiver (ap (delivered_bytes list placed) (sym split) ∙ spelled) had
     (counted ∙ omega (arith, long))) in
     record { channels = seen.0; services = seen.1 }

@@ -6,7 +6,7 @@ use Rattle.std.specs.Io.KnownBytes.{Appends}
 use Rattle.std.specs.List.{AllByRecursion, range_with_len}
 use Rattle.cc_receiver.specs.Receivers.{receiver_refusal}
 use Rattle.cue_lists.specs.Listing.{Listing}
-use Rattle.frame_carrier.specs.Planned.{Placement, authored_channel}
+use Rattle.frame_carrier.specs.Planned.{Placement}
 use Rattle.line21_codes.specs.declared.channels.FieldNumber.{FieldNumber}
 use Rattle.cdp_packets.specs.Packets.{Frame}
 use Rattle.command_base.specs.Counts.{IsReadOf}
@@ -20,7 +20,7 @@ use Rattle.words_commands.specs.ConcealedScreens.{conceal_output}
 use Rattle.lost.specs.Concealer.{Concealer}
 use Rattle.lost.specs.Concealers.{HasConcealed, concealed_frames, receiver_of}
 use Rattle.lost.specs.Delivered.{AreDelivered, delivered_bytes, delivered_packets}
-use Rattle.lost.specs.Recovered.{AreCellsAuthored, AreWindowsAuthored, IsChannelInStep, IsServiceInStep}
+use Rattle.lost.specs.Recovered.{AreCellsAuthored, AreWindowsAuthored, IsServiceInStep}
 use Rattle.ccsuite_cli.specs.Answer.{Answer}
 use Rattle.ccsuite_cli.specs.declared.command.Command.TheVariants.{Conceal}
 
@@ -29,9 +29,9 @@ abbrev pub AllFramesAreBuilt : Type 0
 AllFramesAreBuilt = (list : Listing) (placed : Placement) → delivered_bytes list placed (range_with_len 0 list.frames) ≡ build_output list placed
 
 -- at a frame, the last of those that came, a concealing receiver shows what a list authors on each channel and in each service that is in
--- step there
+-- step there, and nothing on the channels that aren't authored
 pub record IsSeenAgain (list : Listing) (came : List ℕ) (frame : ℕ) (receiver : Concealer) : Type 0 where
-  pub channels : (in_field : FieldNumber) → IsChannelInStep list (authored_channel in_field) came frame → AreCellsAuthored receiver list in_field frame
+  pub channels : (in_field : FieldNumber) → AreCellsAuthored receiver list in_field came frame
   pub services : (service : ℕ) → IsServiceInStep list service came frame → AreWindowsAuthored receiver list service frame
 
 -- a concealing receiver that was fed a front of the words of whatever frames of an accepted list came, in whatever pieces, keeps no refusal:

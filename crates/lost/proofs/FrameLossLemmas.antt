@@ -1,11 +1,14 @@
 -- What is authored is seen again behind frames that are lost: what a concealing receiver hears of each field and service is what the list
 -- sends it in the frames behind the loss.
-use Rattle.std.proofs.Common.{◌≡◌, ◌∙◌, ℕ, zero, suc, ◌+◌, ◌<◌, inl, inr, List, ◌∷◌, ◌++◌, map, reverse, refl, sym, ap, subst, arith}
+use Rattle.std.proofs.Common.{◌≡◌, ◌∙◌, ℕ, zero, suc, ◌+◌, ◌<◌, ◌⊎◌, inl, inr, List, [], ◌∷◌, ◌++◌, map, reverse, refl, sym, ap, subst, arith}
 use Rattle.std.specs.Prelude.{option_to_list}
 use Rattle.std.specs.List.{range_with_len, zip}
 use Rattle.line21_codes.specs.declared.channels.FieldNumber.{FieldNumber}
 use Rattle.line21_codes.specs.declared.pairs.Pair.{Pair}
+use Rattle.cue_lists.specs.AuthoredGrid.{IsSettled, authored_grid, blank, shown_by, shown_of_newest}
 use Rattle.cue_lists.specs.Listing.{IsFormed, Listing}
+use Rattle.cue_lists.specs.declared.cue.Cue.{Cue}
+use Rattle.line21_screen.specs.Fields.{FieldState}
 use Rattle.cue_lists.specs.Rules.{IsRuled}
 use Rattle.cue_lists.specs.declared.lane.Lane.TheVariants.{Service}
 use Rattle.line21_screen.specs.Meaning.{after}
@@ -28,15 +31,16 @@ use Rattle.windows_shown.specs.ServiceLanes.{Lane, lane_frame_bytes, lane_frame_
 use Rattle.windows_shown.proofs.CaptionLanesLemmas.{lane_bytes_are}
 use Rattle.windows_shown.specs.AuthoredShown.{list_lane}
 use Rattle.windows_shown.proofs.ShownLemmas.{windows_are_shown}
-use Rattle.lost.specs.WindowLoss.{ResynchronisesService, lane_events_since}
+use Rattle.lost.specs.WindowLoss.{IsServiceBack, lane_events_since}
 use Rattle.lost.proofs.WindowLossLemmas.{service_loss_recovered}
 use Rattle.line21_shown.specs.Shown.{ShowsField}
 use Rattle.line21_shown.proofs.SequenceLemmas.{authored_seen}
-use Rattle.lost.specs.ChannelLoss.{Resynchronises, pairs_between}
-use Rattle.lost.proofs.ChannelLossLemmas.{seen_again}
+use Rattle.lost.specs.ChannelLoss.{pairs_between, state_from}
+use Rattle.lost.proofs.ChannelLossLemmas.{seen_again, silent_blank}
+use Rattle.lost.proofs.LastLemmas.{last_lost_found}
 use Rattle.cc_conceal.specs.Concealed.{concealed, concealed_field, concealed_windows, heard_of}
-use Rattle.lost.specs.Delivered.{AreDelivered, IsInStep, IsResynchronised, delivered_packets}
-use Rattle.lost.specs.Recovered.{LossIsRecovered}
+use Rattle.lost.specs.Delivered.{AreDelivered, HoldsOfLastLost, IsLastLost, NoneIsLost, delivered_packets}
+use Rattle.lost.specs.Recovered.{IsChannelBack, IsChannelInStep, IsServiceInStep, LossIsRecovered}
 use Rattle.lost.proofs.DeliveredLemmas.{hears_all, hears_behind}
 use Rattle.lost.proofs.PairLemmas.{between_plain, pairs_since}
 use Rattle.lost.proofs.WordsLemmas.{list_carried}
@@ -81,22 +85,37 @@ module _ (list : Listing) (placed : Placement) (formed : IsFormed list) (ruled :
       ∙ lane_since service since count
 
   -- behind a loss
-  field_again : (frame : ℕ) (in_field : FieldNumber) → AreDelivered came → IsResynchronised came frame (Resynchronises (authored_channel in_field) list.cues)
-      → ShowsField (concealed_field in_field packets) (authored_channel in_field) list.cues frame
-  field_again frame in_field delivered by =
-      let up_to = by.last.up_to in
-      subst (λ (pairs : List Pair). ShowsField (after in_field (reverse pairs)) (authored_channel in_field) list.cues frame)
-      (sym (pairs_heard in_field (suc by.lost) (suc by.last.count) (hears_behind list.rate columns came by.lost frame delivered by.last)))
-      (seen_again list placed formed ruled is in_field by.lost (suc by.last.count) frame by.cue (omega arith) by.again by.shown)
+  field_heard : (in_field : FieldNumber) (since count : ℕ) → heard_of packets ≡ column_packets list.rate columns since count
+      → concealed_field in_field packets ≡ state_from in_field columns since count
+  field_heard in_field since count heard = ap (λ (pairs : List Pair). after in_field (reverse pairs)) (pairs_heard in_field since count heard)
 
-  service_again : (frame service id : ℕ) → id < 8 → AreDelivered came → IsResynchronised came frame (ResynchronisesService list service)
+  field_behind : (frame lost : ℕ) (in_field : FieldNumber) → AreDelivered came → (last : IsLastLost came lost frame)
+      → concealed_field in_field packets ≡ state_from in_field columns (suc lost) (suc last.count)
+  field_behind frame lost in_field delivered last =
+      field_heard in_field (suc lost) (suc last.count) (hears_behind list.rate columns came lost frame delivered last)
+
+  field_again : (frame : ℕ) (in_field : FieldNumber) → AreDelivered came
+      → (by : HoldsOfLastLost came frame (IsChannelBack (authored_channel in_field) list.cues frame)) → IsSettled (authored_channel in_field) list.cues frame
+      → (concealed_field in_field packets).first.displayed ≡ authored_grid (authored_channel in_field) list.cues frame
+  field_again frame in_field delivered by settled =
+      ap (λ (s : FieldState). s.first.displayed) (field_behind frame by.lost in_field delivered by.last) ∙ back by.holds
+    where
+      back : IsChannelBack (authored_channel in_field) list.cues frame by.lost
+          → (state_from in_field columns (suc by.lost) (suc by.last.count)).first.displayed ≡ authored_grid (authored_channel in_field) list.cues frame
+      back (inl none) =
+          (silent_blank list placed formed ruled is in_field (suc by.lost) (suc by.last.count)).own none
+          ∙ sym (ap (λ (cues : List Cue). shown_of_newest frame (shown_by frame (reverse cues))) none)
+      back (inr again) =
+          let up_to = by.last.up_to in
+          seen_again list placed formed ruled is in_field by.lost (suc by.last.count) frame again.0 (omega arith) again.1 again.2 settled
+
+  service_again : (frame service id : ℕ) → id < 8 → AreDelivered came → HoldsOfLastLost came frame (IsServiceBack list service frame)
       → concealed_windows packets service id ≡ authored_windows service list.cues frame id
   service_again frame service id small delivered by =
-      let up_to = by.last.up_to in
       ap (λ (es : List Event). grids (after_events start es).core.screen id)
       (events_heard service (suc by.lost) (suc by.last.count) (hears_behind list.rate columns came by.lost frame delivered by.last))
-      ∙ service_loss_recovered list service (placed (Service service)) formed ruled (services service).placed start.clock by.lost (suc by.last.count) frame id by.cue
-      (omega arith) by.again by.shown small
+      ∙ service_loss_recovered list service (placed (Service service)) formed ruled (services service).placed start.clock by.lost by.last.count frame id
+      by.last.up_to by.holds small
 
   -- where none is lost
   all_heard : (frame : ℕ) → came ≡ range_with_len 0 (suc frame) → heard_of packets ≡ column_packets list.rate columns 0 (suc frame)
@@ -133,18 +152,29 @@ module _ (list : Listing) (placed : Placement) (formed : IsFormed list) (ruled :
       ∙ windows_are_shown list (share_in list service) service (placed (Service service)) formed ruled (services service).placed frame id small
 
   -- either way
-  field_recovered : (frame : ℕ) (in_field : FieldNumber) → AreDelivered came → IsInStep came frame (Resynchronises (authored_channel in_field) list.cues)
-      → ShowsField (concealed_field in_field packets) (authored_channel in_field) list.cues frame
-  field_recovered frame in_field delivered (inl none) = field_whole frame in_field none
-  field_recovered frame in_field delivered (inr by) = field_again frame in_field delivered by
+  first_recovered : (frame : ℕ) (in_field : FieldNumber) → AreDelivered came → IsChannelInStep list (authored_channel in_field) came frame
+      → IsSettled (authored_channel in_field) list.cues frame → (concealed_field in_field packets).first.displayed ≡ authored_grid (authored_channel in_field) list.cues frame
+  first_recovered frame in_field delivered (inl none) settled = (field_whole frame in_field none).first settled
+  first_recovered frame in_field delivered (inr by) settled = field_again frame in_field delivered by settled
 
-  service_recovered : (frame service id : ℕ) → id < 8 → AreDelivered came → IsInStep came frame (ResynchronisesService list service)
+  second_blank : (frame : ℕ) (in_field : FieldNumber) → AreDelivered came → NoneIsLost came frame ⊎ ((lost : ℕ) × IsLastLost came lost frame)
+      → (concealed_field in_field packets).second.displayed ≡ blank
+  second_blank frame in_field delivered (inl none) = (field_whole frame in_field none).second
+  second_blank frame in_field delivered (inr (lost, last)) =
+      ap (λ (s : FieldState). s.second.displayed) (field_behind frame lost in_field delivered last)
+      ∙ (silent_blank list placed formed ruled is in_field (suc lost) (suc last.count)).other
+
+  service_recovered : (frame service id : ℕ) → id < 8 → AreDelivered came → IsServiceInStep list service came frame
       → concealed_windows packets service id ≡ authored_windows service list.cues frame id
   service_recovered frame service id small delivered (inl none) = service_whole frame service id small none
   service_recovered frame service id small delivered (inr by) = service_again frame service id small delivered by
 
 pub loss_recovered : LossIsRecovered
-loss_recovered list placed formed ruled is came frame delivered = (
-  λ in_field step. field_recovered list placed formed ruled is came frame in_field delivered step,
-  λ service id small step. service_recovered list placed formed ruled is came frame service id small delivered step,
-)
+loss_recovered list placed formed ruled is earlier frame delivered =
+    let came : List ℕ = earlier ++ frame ∷ [] in (
+      λ in_field. record {
+        first = first_recovered list placed formed ruled is came frame in_field delivered;
+        second = second_blank list placed formed ruled is came frame in_field delivered (last_lost_found earlier frame delivered);
+      },
+      λ service id small step. service_recovered list placed formed ruled is came frame service id small delivered step,
+    )

@@ -4,7 +4,10 @@ pub mod IdleLemmas
 pub mod BegunLemmas
 pub mod ClosingLemmas
 pub mod FoundLemmas
+pub mod RowLemmas
+pub mod WrittenLemmas
 pub mod ResyncLemmas
+pub mod RowsBackLemmas
 pub mod ChannelLossLemmas
 pub mod ResetLemmas
 pub mod WindowLossLemmas

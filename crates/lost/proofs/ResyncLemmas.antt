@@ -6,6 +6,7 @@ use Rattle.std.specs.List.{AllByRecursion}
 use Rattle.std.specs.Option.{option_or}
 use Rattle.std.proofs.lemmas.Bool.{cases_lt}
 use Rattle.std.proofs.lemmas.Bool.Decides.{nat_tests}
+use Rattle.line21_codes.specs.declared.channels.Chan.{Chan}
 use Rattle.line21_codes.specs.declared.channels.FieldNumber.{FieldNumber}
 use Rattle.line21_codes.specs.declared.codes.Code.TheVariants.{Null}
 use Rattle.line21_codes.specs.declared.codes.Control.TheVariants.{Edm}
@@ -16,8 +17,12 @@ use Rattle.line21_codes.specs.Repeats.{is_ignored, same_pair}
 use Rattle.line21_codes.proofs.CodeLemmas.{written-code_of}
 use Rattle.line21_codes.proofs.RepeatLemmas.{same_pair-true}
 use Rattle.cue_lists.specs.AuthoredGrid.{IsSettledFor, chain_of, shown_by, shown_from, shown_of_newest}
+use Rattle.cue_lists.specs.Cues.{IsOfKind}
+use Rattle.cue_lists.specs.Line21Cues.{base_row}
 use Rattle.cue_lists.specs.Rules.Lane.{is_line21, is_pop}
 use Rattle.cue_lists.specs.declared.cue.Cue.{Cue}
+use Rattle.cue_lists.specs.declared.cue.Kind.{Kind}
+use Rattle.cue_lists.specs.declared.cue.Kind.TheVariants.{Roll}
 use Rattle.line21_author.specs.CueEvents.{cue_events, hide_events}
 use Rattle.line21_author.specs.FirstChannel.{first_channel}
 use Rattle.line21_author.specs.declared.event.Event.{Event}
@@ -32,7 +37,7 @@ use Rattle.lanes.proofs.ColumnLemmas.{null_plain}
 use Rattle.lanes.proofs.EventLemmas.{event_none}
 use Rattle.line21_shown.specs.Doing.{does}
 use Rattle.line21_shown.specs.Reading.{acts, does_unit, IsCaptioned, IsForFirst}
-use Rattle.line21_shown.proofs.HeadLemmas.{Continues, events_on, or_nothing, rest_in_sequence, sequence_in_slots}
+use Rattle.line21_shown.proofs.HeadLemmas.{Continues, events_on, first_sound, or_nothing, rest_in_sequence, sequence_in_slots}
 use Rattle.line21_shown.proofs.LoadingLemmas.{erases, erasing, until}
 use Rattle.line21_shown.proofs.OnScreenLemmas.{IsNew, not_continued}
 use Rattle.line21_shown.proofs.ReadingLemmas.{none_begins, null_code, slot_is}
@@ -47,6 +52,8 @@ use Rattle.lost.proofs.IdleLemmas.{IsEmpty, hidden_by_then, idle_on}
 use Rattle.line21_shown.proofs.OnScreenLemmas.{plain_continues, plain_shown}
 use Rattle.line21_shown.proofs.HeadLemmas.{head}
 use Rattle.line21_shown.proofs.PopOnLemmas.{pop_continues, pop_shown}
+use Rattle.lost.proofs.RowLemmas.{HasRows, rows_first}
+use Rattle.lost.proofs.WrittenLemmas.{IsRolledUp, written_alone, written_continues}
 use Rattle.lost.proofs.StepLemmas.{InStep, fresh_first, fresh_other, fresh_plain, heard_in_step, into_step, next_step}
 
 -- no cue before it, or the one before it has a HIDE
@@ -54,8 +61,13 @@ abbrev pub Resumes : List Cue → Type 0
 Resumes [] = ⊤
 Resumes (former ∷ earlier) = IsSome former.hide
 
+-- a chain begins with its cue
+pub chain_begins : (cue : Cue) (earlier : List Cue) → (rest : List Cue) × (chain_of cue earlier ≡ cue ∷ rest)
+chain_begins cue [] = ([], refl)
+chain_begins cue (former ∷ earlier) = (_, refl)
+
 module _ (in_field : FieldNumber) (t : Timeline) (captioned : IsCaptioned t) (firsts : (n : ℕ) → IsForFirst (code_of (slot t n))) (frames : ℕ) (cue : Cue)
-    (later earlier : List Cue) (found : IsFound in_field t frames cue later earlier) (resumes : Resumes earlier) (from : ℕ) (behind : from ≤ cue.load) where
+    (later earlier : List Cue) (found : IsFound in_field t frames cue later earlier) (from : ℕ) (behind : from ≤ cue.load) where
   abbrev hide : Option ℕ
   hide = newest_hide earlier
 
@@ -284,8 +296,8 @@ module _ (in_field : FieldNumber) (t : Timeline) (captioned : IsCaptioned t) (fi
   null_at n due none = ap code_of (slot_is t n None None due none) ∙ null_code
 
   -- an empty screen at the first unit of a cue that isn't pop-on
-  empty_there : is_pop cue.kind ≡ false → IsEmpty (acts h e)
-  empty_there plain = by_earlier earlier refl resumes
+  empty_there : Resumes earlier → is_pop cue.kind ≡ false → IsEmpty (acts h e)
+  empty_there resumes plain = by_earlier earlier refl resumes
     where
       low_e : from ≤ e
       low_e = let low = load_low in omega arith
@@ -336,9 +348,9 @@ module _ (in_field : FieldNumber) (t : Timeline) (captioned : IsCaptioned t) (fi
                   due_over zero up below = absurd (omega arith)
                   due_over (suc i) up below = ap repeat_of (none_over i (omega arith) (omega arith))
 
-  new_there : is_pop cue.kind ≡ false → IsNew cue earlier (acts t2 e)
-  new_there plain = record {
-    empty = ap (λ (s : ChannelState). s.displayed) (acts_heard e) ∙ empty_there plain;
+  new_there : Resumes earlier → is_pop cue.kind ≡ false → IsNew cue earlier (acts t2 e)
+  new_there resumes plain = record {
+    empty = ap (λ (s : ChannelState). s.displayed) (acts_heard e) ∙ empty_there resumes plain;
     alone = alone earlier resumes;
   }
     where
@@ -351,26 +363,44 @@ module _ (in_field : FieldNumber) (t : Timeline) (captioned : IsCaptioned t) (fi
           by_hide (Some x) is some = rw (not_continued cue former x is) refl
 
   -- another one
-  plain_again : is_pop cue.kind ≡ false → (f : ℕ) → cue.show ≤ f → AllByRecursion (IsSettledFor f) later
+  plain_again : Resumes earlier → is_pop cue.kind ≡ false → (f : ℕ) → cue.show ≤ f → AllByRecursion (IsSettledFor f) later
       → (acts t2 (suc f)).displayed ≡ shown_of_newest f (shown_by f (newest_first later (cue ∷ earlier)))
-  plain_again plain f above settled =
+  plain_again resumes plain f above settled =
       let on : Continues in_field t2 e hide (cue ∷ later) = goes_on in_field t found.a hide cue later found.on b h in
       let begins : writes_from hide cue.load ≤ e =
       plain_free in_field hide cue later (cue_events in_field (cue ∷ later)) e plain (hidden_by_load earlier found.link plain) load_low free in
       let before : e ≤ cue.show = let high = show_high in omega arith in
       cues_shown in_field t2 frames cue.show cue.show cue.hide (shown_from cue.kind cue earlier) later (cue ∷ earlier) found.captions.1
       (rest_in_sequence 1 frames cue later found.sequence) (begin_behind frames cue later found.sequence) (after_it frames cue later earlier found.sequence)
-      (plain_continues in_field t2 frames e e hide earlier cue later plain line21 found.captions.0.formed found.sequence on (omega arith) begins before (inl (new_there plain))
+      (plain_continues in_field t2 frames e e hide earlier cue later plain line21 found.captions.0.formed found.sequence on (omega arith) begins before (inl (new_there resumes plain))
       (head in_field t2 frames e cue.show hide cue later found.captions.0.formed found.sequence on (λ f above free. above)).first)
-      (plain_shown in_field t2 frames e e hide earlier cue later plain line21 found.captions.0.formed found.sequence on (omega arith) begins before (inl (new_there plain))
+      (plain_shown in_field t2 frames e e hide earlier cue later plain line21 found.captions.0.formed found.sequence on (omega arith) begins before (inl (new_there resumes plain))
       (head in_field t2 frames e cue.show hide cue later found.captions.0.formed found.sequence on (λ f above free. above)).first)
       (omega arith) f above settled
 
-  -- so each is shown again
-  pub shown_again : (f k : ℕ) → from + k ≡ suc f → cue.show ≤ f → AllByRecursion (IsSettledFor f) later
+  -- so each is shown again that continues none
+  pub shown_again : Resumes earlier → (f k : ℕ) → from + k ≡ suc f → cue.show ≤ f → AllByRecursion (IsSettledFor f) later
       → (after in_field (pairs_from (slot t) from k)).first.displayed ≡ shown_of_newest f (shown_by f (newest_first later (cue ∷ earlier)))
-  shown_again f k is above settled = shows_heard k (suc f) is ∙ by_kind (is_pop cue.kind) refl
+  shown_again resumes f k is above settled = shows_heard k (suc f) is ∙ by_kind (is_pop cue.kind) refl
     where
       by_kind : (p : Bool) → is_pop cue.kind ≡ p → (acts t2 (suc f)).displayed ≡ shown_of_newest f (shown_by f (newest_first later (cue ∷ earlier)))
       by_kind true pop = pop_again pop f above settled
-      by_kind false plain = plain_again plain f above settled
+      by_kind false plain = plain_again resumes plain f above settled
+
+  -- a roll-up cue whose former cue isn't hidden is written onto whatever is shown: so much of its chain is seen as itself
+  pub rolled_up : (channel : Chan) (rows : ℕ) → cue.kind ≡ Roll channel rows → hide ≡ None → IsRolledUp in_field h 1 rows cue earlier later
+  rolled_up channel rows kind none =
+      let plain : is_pop cue.kind ≡ false = ap is_pop kind in
+      let on : Continues in_field t2 e None (cue ∷ later) =
+      subst (λ (o : Option ℕ). Continues in_field t2 e o (cue ∷ later)) none (goes_on in_field t found.a hide cue later found.on b h) in
+      let own : IsOfKind (Roll channel rows) cue.hide cue.runs = subst (λ (k : Kind). IsOfKind k cue.hide cue.runs) kind found.captions.0.formed.kind in
+      let before : e ≤ cue.show = let high = show_high in omega arith in
+      let w = chain_begins cue earlier in
+      record {
+        own = t2;
+        same = acts_heard;
+        on = written_continues in_field t2 frames e cue later plain found.captions.0.formed found.sequence on before;
+        rows_are = subst (λ (chain : List Cue). HasRows 1 rows (base_row cue.runs) chain (acts t2 cue.show)) (sym w.1)
+            (subst (HasRows 1 rows (base_row cue.runs) (cue ∷ w.0)) (sym (written_alone in_field t2 frames e cue later plain found.captions.0.formed found.sequence on before))
+            (rows_first channel rows cue w.0 (acts t2 e) kind own.1 own.2 found.captions.0.formed.some (first_sound 1 frames cue later found.sequence).apart));
+      }

@@ -1,8 +1,11 @@
 -- What the worked examples of channels in step need: frames but for one come in order, and of two captions none brings its channel back before
 -- the SHOW of the second.
-use Rattle.std.proofs.Common.{◌≡◌, ℕ, zero, suc, ◌+◌, ◌<◌, ◌≤◌, List, [], ◌∷◌, ◌++◌, ap, arith, get_or}
-use Rattle.std.specs.List.{range_with_len}
+use Rattle.std.proofs.Common.{◌≡◌, ℕ, zero, suc, ◌+◌, ◌<◌, ◌≤◌, List, [], ◌∷◌, ◌++◌, reverse, ap, arith, get_or, subst}
+use Rattle.std.specs.List.{AllByRecursion, range_with_len}
 use Rattle.cue_lists.specs.declared.cue.Cue.{Cue}
+use Rattle.cue_lists.specs.Rules.Examples.{pop}
+use Rattle.line21_codes.specs.declared.channels.Chan.TheVariants.{Cc1}
+use Rattle.lost.specs.ChannelLoss.{seen_with}
 use Rattle.lost.specs.Delivered.{AreDelivered}
 
 -- frames in a row
@@ -18,19 +21,20 @@ rows_delivered k (suc zero) lost zero is = tt
 rows_delivered k (suc zero) lost (suc count) is = (omega arith, omega arith, row_delivered (suc lost) (suc count))
 rows_delivered k (suc (suc n)) lost count is = (omega arith, omega arith, rows_delivered (k + 1) (suc n) lost count (omega arith))
 
--- a cue of two that is loaded behind a frame by which the first was, and shown before the second is
-pub none_of_two : (first second cue : Cue) (earlier later : List Cue) (lost frame : ℕ) → first ∷ second ∷ [] ≡ earlier ++ cue ∷ later
-    → first.load ≤ lost → frame < second.show → lost < cue.load → cue.show ≤ frame → ⊥
-none_of_two first second cue [] later lost frame are cut late loaded shown =
-    let same : first ≡ cue = cc in
-    let load : first.load ≡ cue.load = ap (λ (c : Cue). c.load) same in
+-- no cue of two pop-on ones resynchronises their channel before the SHOW of the second, where the first is loaded from frame 0 on
+pub none_of_two : (show hide load next_show next_hide lost frame : ℕ) (cue : Cue) (earlier later : List Cue)
+    → pop Cc1 0 show hide ∷ pop Cc1 load next_show next_hide ∷ [] ≡ earlier ++ cue ∷ later → frame < next_show
+    → AllByRecursion (λ (seen : Cue). lost < seen.load) (seen_with cue (reverse earlier)) → cue.show ≤ frame → ⊥
+none_of_two show hide load next_show next_hide lost frame cue [] later are late loaded shown =
+    let same : cue ≡ pop Cc1 0 show hide = cc in
+    let low : lost < 0 = (subst (λ (c : Cue). AllByRecursion (λ (seen : Cue). lost < seen.load) (seen_with c [])) same loaded).0 in
     absurd (omega arith)
-none_of_two first second cue (one ∷ []) later lost frame are cut late loaded shown =
-    let same : second ≡ cue = cc in
-    let show : second.show ≡ cue.show = ap (λ (c : Cue). c.show) same in
+none_of_two show hide load next_show next_hide lost frame cue (one ∷ []) later are late loaded shown =
+    let same : pop Cc1 load next_show next_hide ≡ cue = cc in
+    let behind : next_show ≡ cue.show = ap (λ (c : Cue). c.show) same in
     absurd (omega arith)
-none_of_two first second cue (one ∷ two ∷ []) later lost frame are cut late loaded shown = cc
-none_of_two first second cue (one ∷ two ∷ three ∷ earlier) later lost frame are cut late loaded shown = cc
+none_of_two show hide load next_show next_hide lost frame cue (one ∷ two ∷ []) later are late loaded shown = cc
+none_of_two show hide load next_show next_hide lost frame cue (one ∷ two ∷ three ∷ earlier) later are late loaded shown = cc
 
 -- two rows of frames of which one has one more at a place aren't the same
 pub one_apart : (came others : List ℕ) (n : ℕ) → came ≡ others → get_or came n 0 ≡ suc (get_or others n 0) → ⊥

@@ -1,6 +1,5 @@
--- A service of a list shows the authored windows again behind a loss: each caption that is up at the SHOW of a cue that resynchronises it,
--- or later, was loaded since.
-use Rattle.std.proofs.Common.{◌≡◌, ◌∙◌, ℕ, suc, ◌<◌, ◌≤◌, ◌==◌, ◌⊎◌, inl, inr, Bool, true, false, cond, if◌then◌else◌, List, [], ◌∷◌, ◌++◌, Option, Some, None, refl, sym, ap, subst, arith}
+-- A service of a list shows the authored windows again behind a loss where each caption that is up was loaded since.
+use Rattle.std.proofs.Common.{◌≡◌, ◌∙◌, ℕ, suc, ◌<◌, ◌≤◌, ◌==◌, ◌⊎◌, inl, inr, Bool, true, false, cond, if◌then◌else◌, List, [], ◌∷◌, Option, Some, None, refl, sym, ap, subst, arith}
 use Rattle.std.specs.Prelude.{IfSome, unwrap_or}
 use Rattle.cc_base.specs.declared.rate.Rate.{Rate}
 use Rattle.cue_types.specs.Channels.{cues_of_service, is_of_service}
@@ -9,8 +8,6 @@ use Rattle.cue_types.specs.declared.cue.Cue.{Cue}
 use Rattle.cue_types.specs.declared.cue.Kind.{Kind}
 use Rattle.cue_types.specs.declared.cue.Kind.TheVariants.{Pop, Paint, Roll, Win}
 use Rattle.cue_types.specs.declared.cue.WinCue.{WinCue}
-use Rattle.cue_lists.specs.Rules.{IsRuled}
-use Rattle.cue_lists.specs.Rules.Sentences.{AreInService, KeepsClear}
 use Rattle.dtvcc_screen.specs.Screens.{ScreenState}
 use Rattle.dtvcc_screen.specs.Shown.{grids}
 use Rattle.dtvcc_author.specs.declared.caption.Caption.{Caption}
@@ -21,21 +18,13 @@ use Rattle.frame_scheduler.specs.Planned.{share_in}
 use Rattle.std.specs.List.{AllByRecursion, cons_option}
 use Rattle.windows_shown.specs.AuthoredShown.{list_lane}
 use Rattle.windows_shown.proofs.ShownLemmas.{windows_are_heard}
-use Rattle.lost.specs.WindowLoss.{ResynchronisesService, ServiceLossIsRecovered}
+use Rattle.lost.specs.WindowLoss.{IsServiceBack, ServiceLossIsRecovered}
 use Rattle.lost.proofs.ResetLemmas.{reset_hears}
 
 -- a cue is one of the list
 abbrev In : Cue → List Cue → Type 0
 In cue [] = ⊥
 In cue (k ∷ ks) = (cue ≡ k) ⊎ In cue ks
-
-in_parts : (cue : Cue) (front rest : List Cue) → In cue (front ++ rest) → In cue front ⊎ In cue rest
-in_parts cue [] rest is = inr is
-in_parts cue (k ∷ front) rest (inl same) = inl (inl same)
-in_parts cue (k ∷ front) rest (inr is) = elim (in_parts cue front rest is) [
-  | inl left ↦ inl (inr left)
-  | inr right ↦ inr right
-]
 
 in_all : (P : Cue → Type 0) (cue : Cue) (cues : List Cue) → AllByRecursion P cues → In cue cues → P cue
 in_all P cue [] all is = absurd is
@@ -88,47 +77,20 @@ cue_of rate service c (k ∷ ks) has = at k.kind refl has (λ rest. cue_of rate 
     at (Roll channel rows) is has rest = further (is_of_service service k.kind) (rest has) refl
     at (Win w) is has rest = win w is (w.service == service) refl has rest
 
--- the cues behind a cue keep clear of it
-behind_clear : (list : Listing) (service : ℕ) (front : List Cue) (cue : Cue) (later : List Cue) → AreInService list service (front ++ cue ∷ later)
-    → AllByRecursion (KeepsClear list.rate cue) later
-behind_clear list service [] cue later ruled = ruled.1
-behind_clear list service (k ∷ front) cue later ruled = behind_clear list service front cue later ruled.2
-
-hide_most : (hide : Option ℕ) (show : ℕ) → IfSome hide (λ h. h ≤ show) → unwrap_or hide 0 ≤ show
-hide_most None show low = omega arith
-hide_most (Some h) show low = low
-
 -- each caption that is up was loaded behind the lost frame
-up_loaded : (list : Listing) (service lost frame : ℕ) (cue : Cue) → IsRuled list → (again : ResynchronisesService list service lost cue) → cue.show ≤ frame
+up_loaded : (list : Listing) (service lost frame : ℕ) → IsServiceBack list service frame lost
     → (c : Caption) → Has c (service_captions list.rate service list.cues) → frame < c.hide → suc lost ≤ c.load
-up_loaded list service lost frame cue ruled again above c has up =
+up_loaded list service lost frame back c has up =
     let k = cue_of list.rate service c list.cues has in
-    at k.cue k.load_is k.hide_is (in_parts k.cue again.earlier (cue ∷ again.later) (subst (In k.cue) again.stands k.within))
+    by_hide k.cue k.load_is k.cue.hide k.hide_is
+    (in_all (λ (cue : Cue). IfSome cue.hide (λ hide. frame < hide → lost < cue.load)) k.cue (cues_of_service service list.cues) back k.within)
   where
-    clear : AllByRecursion (KeepsClear list.rate cue) again.later
-    clear = behind_clear list service again.earlier cue again.later (subst (AreInService list service) again.stands (ruled.services service))
-
-    at : (k : Cue) → c.load ≡ k.load → c.hide ≡ unwrap_or k.hide 0 → In k again.earlier ⊎ In k (cue ∷ again.later) → suc lost ≤ c.load
-    at k load_is hide_is (inl early) =
-        let low = hide_most k.hide cue.show (in_all (λ (former : Cue). IfSome former.hide (λ hide. hide ≤ cue.show)) k again.earlier again.vacated early) in
-        absurd (omega arith)
-    at k load_is hide_is (inr (inl same)) =
-        let load : k.load ≡ cue.load = ap (λ (x : Cue). x.load) same in
-        let loaded = again.loaded in omega arith
-    at k load_is hide_is (inr (inr late)) =
-        let order = (in_all (KeepsClear list.rate cue) k again.later clear late).loaded in
-        let loaded = again.loaded in omega arith
+    by_hide : (k : Cue) → c.load ≡ k.load → (hide : Option ℕ) → c.hide ≡ unwrap_or hide 0 → IfSome hide (λ h. frame < h → lost < k.load) → suc lost ≤ c.load
+    by_hide k load_is None hide_is loaded = absurd (omega arith)
+    by_hide k load_is (Some h) hide_is loaded = let low : lost < k.load = loaded (omega arith) in omega arith
 
 pub service_loss_recovered : ServiceLossIsRecovered
-service_loss_recovered list service placed formed ruled is clock lost count frame id cue counts again above small =
-    let low : suc lost ≤ frame = (let loaded = again.loaded in let shown = shows_behind again in omega arith) in
-    ap (λ (s : ScreenState). grids s id) (reset_hears (list_lane list service placed) clock (suc lost) count frame counts low)
-    ∙ windows_are_heard list (share_in list service) service (suc lost) placed formed ruled is frame id low small
-    (up_loaded list service lost frame cue ruled again above)
-  where
-    in_front : (front : List Cue) → AreInService list service (front ++ cue ∷ again.later) → cue.load < cue.show
-    in_front [] rules = rules.0.loaded
-    in_front (k ∷ front) rules = in_front front rules.2
-
-    shows_behind : ResynchronisesService list service lost cue → cue.load < cue.show
-    shows_behind a = in_front again.earlier (subst (AreInService list service) again.stands (ruled.services service))
+service_loss_recovered list service placed formed ruled is clock lost count frame id counts back small =
+    ap (λ (s : ScreenState). grids s id) (reset_hears (list_lane list service placed) clock (suc lost) (suc count) frame (omega arith) (omega arith))
+    ∙ windows_are_heard list (share_in list service) service (suc lost) placed formed ruled is frame id (omega arith) small
+    (up_loaded list service lost frame back)

@@ -10,7 +10,7 @@ use Rattle.line21_codes.specs.declared.styles.Colour.TheVariants.{White}
 use Rattle.cue_lists.specs.AuthoredGrid.{Picture, authored_grid}
 use Rattle.cue_lists.specs.Rules.Examples.{example_cue, example_run}
 use Rattle.cue_lists.specs.declared.cue.Cue.{Cue}
-use Rattle.cue_lists.specs.declared.cue.Kind.TheVariants.{Pop}
+use Rattle.cue_lists.specs.declared.cue.Kind.TheVariants.{Pop, Roll}
 use Rattle.line21_screen.specs.Meaning.{after}
 use Rattle.line21_shown.specs.Examples.{Example, pair, picture_rows, twice}
 
@@ -33,6 +33,10 @@ letter_a = example_cue (Pop Cc1) 0 8 None (example_run White 15 0 (65 ∷ []) �
 
 abbrev pub letter_b : Cue
 letter_b = example_cue (Pop Cc1) 10 18 (Some 20) (example_run White 15 0 (66 ∷ []) ∷ [])
+
+-- the last of the roll-up cues of two rows, which continues the one before it
+abbrev pub letter_c : Cue
+letter_c = example_cue (Roll Cc1 2) 16 23 (Some 25) (example_run White 11 0 (67 ∷ []) ∷ [])
 
 abbrev pub two_letters : Example
 two_letters = record {

@@ -6,7 +6,6 @@ use Rattle.std.specs.List.{AllByRecursion, flat_map, range_with_len}
 use Rattle.cc_base.specs.declared.rate.Rate.{Rate}
 use Rattle.cdp_packets.specs.Packets.{Frame}
 use Rattle.cue_lists.specs.Listing.{Listing}
-use Rattle.cue_lists.specs.declared.cue.Cue.{Cue}
 use Rattle.frame_scheduler.specs.Columns.{Columns}
 use Rattle.frame_scheduler.specs.Planned.{Placement, columns_of}
 use Rattle.frame_carrier.specs.Carrying.{channel_packet_of, frame_bytes, frame_packet}
@@ -52,14 +51,12 @@ GreatestIsLastLost = (earlier : List ℕ) (frame lost : ℕ) → AreDelivered (e
     → (Contains (earlier ++ frame ∷ []) lost → ⊥) → ((k : ℕ) → lost < k → k < frame → Contains (earlier ++ frame ∷ []) k)
     → IsLastLost (earlier ++ frame ∷ []) lost frame
 
--- behind the last frame that is lost before one, a cue resynchronises what was reset there, and its SHOW has come by the one
-pub record IsResynchronised (came : List ℕ) (frame : ℕ) (resynchronises : ℕ → Cue → Type 0) : Type 0 where
+-- this holds of the last frame that is lost before one
+pub record HoldsOfLastLost (came : List ℕ) (frame : ℕ) (Holds : ℕ → Type 0) : Type 0 where
   pub lost : ℕ
-  pub cue : Cue
   pub last : IsLastLost came lost frame
-  pub again : resynchronises lost cue
-  pub shown : cue.show ≤ frame
+  pub holds : Holds lost
 
--- so a channel or service is in step with the list at the last frame that came, or because none was lost
-abbrev pub IsInStep : List ℕ → ℕ → (ℕ → Cue → Type 0) → Type 0
-IsInStep came frame resynchronises = NoneIsLost came frame ⊎ IsResynchronised came frame resynchronises
+-- what was reset behind a lost frame is in step with the list at the last frame that came: none was lost, or it is back behind the last that was
+abbrev pub IsInStep : List ℕ → ℕ → (ℕ → Type 0) → Type 0
+IsInStep came frame IsBack = NoneIsLost came frame ⊎ HoldsOfLastLost came frame IsBack

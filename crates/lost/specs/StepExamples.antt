@@ -20,11 +20,8 @@ slow_cut = pop Cc1 0 8 12
 abbrev pub slow_whole : Cue
 slow_whole = pop Cc1 10 18 20
 
-abbrev pub slow_window : Cue
-slow_window = window 0 20 25 30 0
-
 abbrev pub slow_list : Listing
-slow_list = window_list (slow_cut ∷ slow_whole ∷ window 0 1 12 16 0 ∷ slow_window ∷ [])
+slow_list = window_list (slow_cut ∷ slow_whole ∷ window 0 1 12 16 0 ∷ window 0 20 25 30 0 ∷ [])
 
 -- at 59.94, where field 1 has a slot in every other frame, the same at twice the frames
 abbrev pub fast_cut : Cue
@@ -33,13 +30,10 @@ fast_cut = pop Cc1 0 16 24
 abbrev pub fast_whole : Cue
 fast_whole = pop Cc1 20 36 40
 
-abbrev pub fast_window : Cue
-fast_window = window 0 40 50 60 0
-
 abbrev pub fast_list : Listing
 fast_list = record {
   rate = rate.F5994;
   frames = 300;
   shares = record { service = 1; bytes = 15 } ∷ [];
-  cues = fast_cut ∷ fast_whole ∷ window 0 1 24 32 0 ∷ fast_window ∷ [];
+  cues = fast_cut ∷ fast_whole ∷ window 0 1 24 32 0 ∷ window 0 40 50 60 0 ∷ [];
 }

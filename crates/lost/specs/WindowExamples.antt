@@ -3,7 +3,6 @@
 use Rattle.std.specs.Prelude.{ℕ, suc, ◌-◌, Bool, List, [], ◌∷◌, is_some}
 use Rattle.cc_base.specs.declared.rate.Rate.TheVariants.{F2997}
 use Rattle.cue_types.specs.Listing.{Listing}
-use Rattle.cue_types.specs.declared.cue.Cue.{Cue}
 use Rattle.cue_lists.specs.Rules.Examples.{window, window_list}
 use Rattle.dtvcc_screen.specs.Meaning.{cleaned, served_after}
 use Rattle.dtvcc_screen.specs.Shown.{grids}
@@ -12,11 +11,8 @@ use Rattle.lost.specs.WindowLoss.{lane_events_since}
 
 -- service 1 has a window 0 from frame 4 up to 12, a window 1 from 10 up to 20, whose DELAY of a tenth of a second is 3 frames, a
 -- window 2 from 15 up to 20, which is loaded from 8 on, and again a window 0 from 25 up to 30, loaded from 21 on: in each the letter A
-abbrev pub last_cue : Cue
-last_cue = window 0 21 25 30 0
-
 abbrev pub interrupted_list : Listing
-interrupted_list = window_list (window 0 0 4 12 0 ∷ window 1 1 10 20 1 ∷ window 2 8 15 20 0 ∷ last_cue ∷ [])
+interrupted_list = window_list (window 0 0 4 12 0 ∷ window 1 1 10 20 1 ∷ window 2 8 15 20 0 ∷ window 0 21 25 30 0 ∷ [])
 
 -- the frames of the units: DefineWindow, the place, the pen and the letter of each
 abbrev pub interrupted_frames : List ℕ

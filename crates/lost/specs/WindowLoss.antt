@@ -1,7 +1,7 @@
 -- Between crates: the program's answer stands on none of these definitions.
 -- What is seen of a service that is reset behind lost frames, and hears all frames from there on (CTA-708-E, Reset and caption windows;
--- that a receiver resets where frames are missing, and by which cue it shows the authored windows again, are this project's own choice).
-use Rattle.std.specs.Prelude.{◌≡◌, ℕ, zero, suc, ◌+◌, ◌<◌, ◌≤◌, List, [], ◌∷◌, ◌++◌, IfSome}
+-- that a receiver resets where frames are missing, and from when on it shows the authored windows again, are this project's own choice).
+use Rattle.std.specs.Prelude.{◌≡◌, ℕ, zero, suc, ◌+◌, ◌<◌, List, [], ◌++◌, IfSome}
 use Rattle.std.specs.List.{AllByRecursion}
 use Rattle.cue_types.specs.Channels.{cues_of_service}
 use Rattle.cue_types.specs.Listing.{IsFormed, Listing}
@@ -19,20 +19,16 @@ abbrev pub lane_events_since : Lane → ℕ → ℕ → List Event
 lane_events_since lane since zero = []
 lane_events_since lane since (suc count) = lane_events_since lane since count ++ lane_frame_events lane (since + count)
 
--- a cue resynchronises a service behind a lost frame: the cue's LOAD comes later, so all that is sent of it does, and each cue of the
--- service before it is hidden by its SHOW
-pub record ResynchronisesService (list : Listing) (service lost : ℕ) (cue : Cue) : Type 0 where
-  pub earlier : List Cue
-  pub later : List Cue
-  pub stands : cues_of_service service list.cues ≡ earlier ++ cue ∷ later
-  pub loaded : lost < cue.load
-  pub vacated : AllByRecursion (λ (former : Cue). IfSome former.hide (λ hide. hide ≤ cue.show)) earlier
+-- a service is back at a frame behind a lost one: each of its cues that isn't hidden by then has its LOAD behind the lost frame, so all that is
+-- sent of it comes
+abbrev pub IsServiceBack : Listing → ℕ → ℕ → ℕ → Type 0
+IsServiceBack list service frame lost =
+    AllByRecursion (λ (cue : Cue). IfSome cue.hide (λ hide. frame < hide → lost < cue.load)) (cues_of_service service list.cues)
 
--- a service that was reset behind a lost frame, and then was told all frames up to one, shows at that one what is authored, from the
--- SHOW of a cue on that resynchronises it: wherever its units stand that its lane allows, whatever its clock had counted
+-- a service that was reset behind a lost frame, and then was told all frames up to one, shows at that one what is authored where it is back:
+-- wherever its units stand that its lane allows, whatever its clock had counted
 abbrev pub ServiceLossIsRecovered : Type 0
 ServiceLossIsRecovered = (list : Listing) (service : ℕ) (frames : List ℕ) → IsFormed list → IsRuled list → IsServicePlaced list service frames
-    → (clock : Clock) (lost count frame id : ℕ) (cue : Cue) → suc lost + count ≡ suc frame → ResynchronisesService list service lost cue → cue.show ≤ frame
-    → id < 8
-    → grids (served_after (cleaned clock) (lane_events_since (list_lane list service frames) (suc lost) count)).core.screen id
+    → (clock : Clock) (lost count frame id : ℕ) → suc lost + count ≡ frame → IsServiceBack list service frame lost → id < 8
+    → grids (served_after (cleaned clock) (lane_events_since (list_lane list service frames) (suc lost) (suc count))).core.screen id
     ≡ authored_windows service list.cues frame id

@@ -27,8 +27,4 @@ unfolding after basic_of code_of is_control is_ignored number_behind ones
 returns-clause-to c = record { authored = refl; displayed = refl }
 
 pub returns-clause-again : goal.returns-clause-again
-returns-clause-again c = record { earlier = letter_a ∷ []; later = []; stands = refl; loaded = omega arith; anew = λ before former is. refl }
-
-pub returns-clause-chained : goal.returns-clause-chained
-unfolding after basic_of code_of is_control is_ignored number_behind ones
-returns-clause-chained c = refl
+returns-clause-again c = record { earlier = letter_a ∷ []; later = []; stands = refl; loaded = (omega arith, tt) }

@@ -1,5 +1,4 @@
-use Rattle.std.proofs.Common.{[], ◌∷◌, arith, refl}
-use Rattle.cue_lists.specs.Rules.Examples.{window}
+use Rattle.std.proofs.Common.{◌<◌, arith, refl}
 use Rattle.dtvcc_codes.specs.CharacterSpellings.{dtvcc_spelling}
 use Rattle.dtvcc_codes.specs.Reading.{spelled_command, told_size}
 use Rattle.dtvcc_codes.specs.Writing.{bytes_of_command}
@@ -11,11 +10,6 @@ returns c = record {
   shown = refl;
   loading = refl;
   meanwhile = refl;
-  again = record {
-    earlier = window 0 0 4 12 0 ∷ window 1 1 10 20 1 ∷ window 2 8 15 20 0 ∷ [];
-    later = [];
-    stands = refl;
-    loaded = omega arith;
-    vacated = (omega arith, (omega arith, (omega arith, tt)));
-  };
+  back = (λ up. omega arith, (λ up. omega arith, (λ up. omega arith, (λ up. omega arith, tt))));
+  cut = λ back. let wrong : 5 < 1 = back.1.0 (omega arith) in absurd (omega arith);
 }
