@@ -1,0 +1,6 @@
+pub mod ColumnFronts
+mod EventFronts
+mod FieldFronts
+mod FrontsLemmas
+mod LawLemmas
+mod ServiceFronts
