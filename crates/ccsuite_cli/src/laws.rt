@@ -2,6 +2,7 @@
 ghost use Rattle.ccsuite_cli.specs.Converted.{BuiltWordsAreFit};
 ghost use Rattle.ccsuite_cli.specs.Seen.{BuiltWordsAreSeen, DualWordsAreSeen, InsertedWordsAreSeen, XdsWordsAreSeen};
 ghost use Rattle.ccsuite_cli.specs.SeenAgain.{AllFramesAreBuilt, BuiltWordsAreSeenAgain, DeliveredIsConcealed, DeliveredIsUnrefused};
+ghost use Rattle.ccsuite_cli.specs.Earlier.{EarlierWordsStay};
 ghost use Rattle.ccsuite_cli.specs.Verdict.{AcceptedIsAnswered, FaultsAreTold, FileIsDecoded, FileIsShown, GoodListIsWritten, LoadIsAnswered, LongWordsAreRefused, MalformedIsRefused, RefusedImportIsAnswered, RefusedListIsAnswered, SccFileIsImported};
 ghost use Rattle.ccsuite_cli.specs.Verified.{BuiltWordsAreVerified, XdsWordsAreVerified};
 ghost use Rattle.scc_commands.specs.ExportVerdict.{FileIsExported, MalformedIsNotExported, StopIsAnswered};
@@ -147,4 +148,10 @@ pub fn built_words_are_fit()
 /// The law that so are the words that `xds` puts of one with good packets beside whose captions they have room.
 pub fn xds_words_are_verified()
     ensures { XdsWordsAreVerified }
+{}
+
+/// The law that no frame knows a cue that is loaded later: what `build` puts of an accepted cue list, and of one that has further cues
+/// at its end, begins with the same words, as far as both have frames: those of all frames before the least LOAD of the further cues.
+pub fn earlier_words_stay()
+    ensures { EarlierWordsStay }
 {}
