@@ -5,3 +5,4 @@ pub mod TakeLemmas
 pub mod StillLemmas
 pub mod LawLemmas
 pub mod CutLemmas
+pub mod StayLemmas
