@@ -1,21 +1,17 @@
 -- What receivers of both kinds make of the bytes that they are fed.
-use Rattle.std.proofs.Common.{◌≡◌, ap, arith, refl, ℕ, List, [], ◌∷◌}
+use Rattle.std.proofs.Common.{◌≡◌, arith, refl, ℕ, List, [], ◌∷◌}
 use Rattle.std.proofs.Math.Path.{fun_ext}
 use Rattle.std.specs.Prelude.{Result, Ok, Err}
 use Rattle.cc_base.specs.declared.refusal.Refusal.{Refusal}
-use Rattle.cc_conceal.specs.Concealed.{concealed_grids}
-use Rattle.cc_conceal.specs.Concealers.{Conceals, ConcealsOn, displayed_now, receiver_of}
+use Rattle.cc_conceal.specs.Concealers.{ConcealsOn, receiver_of}
 use Rattle.cc_conceal.specs.declared.concealer.Concealer.{Concealer}
+use Rattle.cc_conceal.proofs.StayLemmas.{grid_now}
 use Rattle.cc_receiver.proofs.TakenLemmas.{frames_count}
 use Rattle.cc_receiver.specs.Feeds.{Feeds}
 use Rattle.cc_receiver.specs.declared.receiver.Fed.{Fed}
 use Rattle.cc_receiver.specs.declared.receiver.Receiver.{Receiver}
 use Rattle.cdp_packets.specs.Packets.{Frame}
 use Rattle.grid_print.proofs.ScreenLemmas.{grids_behind as received_behind, windows_behind as seen_behind}
-use Rattle.line21_codes.specs.Channels.{data_channel_of}
-use Rattle.line21_codes.specs.declared.channels.Chan.{Chan}
-use Rattle.line21_codes.specs.declared.channels.Chan.TheVariants.{Cc1, Cc2, Cc3, Cc4}
-use Rattle.line21_screen.specs.Fields.{FieldState, channel}
 use Rattle.caption_streams.specs.Receptions.{FeedsOn, ShowsNow, StandsBehind, displayed_in, frame_total, grids_behind, number_behind, windows_behind}
 use Rattle.caption_streams.specs.declared.reception.Reception.{Reception}
 use Rattle.caption_streams.specs.declared.reception.Reception.TheVariants.{Plain, Concealing}
@@ -31,19 +27,11 @@ pub concealing_fed : (before bytes : List ℕ) (old new : Concealer) (answer : R
 concealing_fed before bytes old new (Ok fed) conceals feeds = record { alike = tt; has = conceals; feeds = feeds }
 concealing_fed before bytes old new (Err refusal) conceals feeds = record { alike = tt; has = conceals; feeds = feeds }
 
--- a concealing receiver displays the concealed grid of each channel
-concealed_now : (frames : List Frame) (concealer : Concealer) → Conceals frames concealer → (chan : Chan)
-    → displayed_now concealer chan ≡ concealed_grids frames chan
-concealed_now frames concealer conceals Cc1 = ap (λ (s : FieldState). (channel (data_channel_of Cc1) s).displayed) conceals.acted.behind.first.state
-concealed_now frames concealer conceals Cc2 = ap (λ (s : FieldState). (channel (data_channel_of Cc2) s).displayed) conceals.acted.behind.first.state
-concealed_now frames concealer conceals Cc3 = ap (λ (s : FieldState). (channel (data_channel_of Cc3) s).displayed) conceals.acted.behind.second.state
-concealed_now frames concealer conceals Cc4 = ap (λ (s : FieldState). (channel (data_channel_of Cc4) s).displayed) conceals.acted.behind.second.state
-
 -- what it displays is what the frames leave of each channel
 pub displayed_behind : (reception : Reception) (frames : List Frame) → StandsBehind frames reception
     → displayed_in reception ≡ grids_behind reception frames
 displayed_behind (Plain receiver) frames behind = received_behind frames receiver behind
-displayed_behind (Concealing concealer) frames conceals = fun_ext (concealed_now frames concealer conceals)
+displayed_behind (Concealing concealer) frames conceals = fun_ext (grid_now frames concealer conceals)
 
 -- and what it shows of the windows
 pub shows_behind : (reception : Reception) (frames : List Frame) → StandsBehind frames reception → ShowsNow reception (windows_behind reception frames)

@@ -7,6 +7,7 @@ use Rattle.cc_base.specs.declared.streams.Put.TheVariants as put
 use Rattle.cc_conceal.specs.Concealed.{concealed_grids, concealed_windows, missing_before, number_of_last}
 use Rattle.cc_conceal.specs.Concealers.{Conceals, HasConcealed, concealed_frames, displayed_now, receiver_of}
 use Rattle.cc_conceal.specs.declared.concealer.Concealer.{Concealer}
+use Rattle.cc_conceal.proofs.StayLemmas.{grid_now}
 use Rattle.cc_receiver.proofs.FedFrames.{IsNextFrame, counted_nothing, counts_none, counts_one, frame_more, frames_still, nothing_is_file, nothing_offends}
 use Rattle.cc_receiver.specs.Feeds.{Counts, HasFed, HasRefused}
 use Rattle.cc_receiver.specs.declared.receiver.Ended.TheVariants as ended
@@ -19,10 +20,8 @@ use Rattle.grid_print.specs.GridTexts.{changes_text}
 use Rattle.grid_print.specs.Screens.{LookAlike, Screens, screens_of}
 use Rattle.grid_print.specs.Shown.{last_shown}
 use Rattle.grid_print.specs.declared.shown.Shown.{Shown}
-use Rattle.line21_codes.specs.Channels.{data_channel_of}
 use Rattle.line21_codes.specs.declared.channels.Chan.{Chan}
 use Rattle.line21_codes.specs.declared.channels.Chan.TheVariants.{Cc1, Cc2, Cc3, Cc4}
-use Rattle.line21_screen.specs.Fields.{FieldState, channel}
 use Rattle.line21_screen.specs.Grid.{Grid, empty_grid}
 use Rattle.line21_screen.specs.Meaning.{after}
 use Rattle.cc_receiver.specs.CaptionChannel.{caption_channel}
@@ -45,13 +44,7 @@ use Rattle.words_commands.specs.declared.concealing.Concealing.{Concealing}
 use Rattle.words_commands.proofs.PrintingLemmas.{alike_after, gathered_still, texts_more}
 use Rattle.words_commands.proofs.WordsAnswerLemmas.{HasEndedCounted}
 
--- what is displayed now is the concealed grid of each channel
-grid_now : (frames : List Frame) (concealer : Concealer) → Conceals frames concealer → (chan : Chan) → displayed_now concealer chan ≡ concealed_grids frames chan
-grid_now frames concealer conceals Cc1 = ap (λ (s : FieldState). (channel (data_channel_of Cc1) s).displayed) conceals.acted.behind.first.state
-grid_now frames concealer conceals Cc2 = ap (λ (s : FieldState). (channel (data_channel_of Cc2) s).displayed) conceals.acted.behind.first.state
-grid_now frames concealer conceals Cc3 = ap (λ (s : FieldState). (channel (data_channel_of Cc3) s).displayed) conceals.acted.behind.second.state
-grid_now frames concealer conceals Cc4 = ap (λ (s : FieldState). (channel (data_channel_of Cc4) s).displayed) conceals.acted.behind.second.state
-
+-- the screens now are the concealed ones
 pub screens_now : (frames : List Frame) (concealer : Concealer) → Conceals frames concealer
     → screens_of (displayed_now concealer) (concealed_windows frames) ≡ concealed_screens frames
 screens_now frames concealer conceals =
