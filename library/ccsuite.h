@@ -21,12 +21,13 @@
  * MEMORY
  *   The caller owns every buffer, and the library keeps no pointer to one beyond the call. A handle owns what its `_open` took from malloc, and
  *   `_close` frees it. Want of memory is answered (CCSUITE_MEMORY), never fatal; a call that answers it has freed what it took.
- *   Nothing is written past `room`. Bytes of `out` behind those that are told as written are as they were.
+ *   Nothing is written past `room`. Bytes of `out` behind those that are told as written are as they were. ROOM comes only where there are more bytes
+ *   to write than `room`.
  *
  * HANDLES
  *   A handle lives in the caller's memory and is two words. All zeros is a closed one: write `ccsuite_builder builder = {0};` (C++: `{}`).
  *   A call on a closed handle answers CCSUITE_CLOSED and does nothing; closing a closed one does nothing; opening an open one frees what it
- *   held. An open that fails leaves the handle closed. A handle of another kind is answered as a closed one.
+ *   held. An open that fails leaves the handle closed. A handle of another kind is answered as a closed one, and `_close` leaves it as it is.
  *
  * WHAT A CALLER OWES (nothing checks it)
  *   - A handle is zeroed before its first call, then written by this library's calls alone, and never copied. It goes to one call at a time; it
@@ -91,13 +92,16 @@ typedef struct ccsuite_report {
     uint32_t seen;     /* of DIFFERS, MISFIT: what there is in its place */
     uint64_t place;    /* of MALFORMED: the byte at fault, counted from 0 */
     uint64_t written;  /* the number of bytes that stand at the front of `out` */
+    uint64_t wanted;   /* of ROOM: how many bytes the whole output has */
     char text[160];    /* the line of the status, with its line end, and behind it zeros; empty of OK */
 } ccsuite_report;
 
 /* ---- Whole runs ------------------------------------------------------------------------------------------------------------------------
  * Each reads its input to the end, writes to the front of `out`, fills the report and returns report->status. Where it isn't OK, the bytes
  * that were written before stand in `out` all the same (report->written), as with the program; commands that judge first have written none.
- * ROOM: a front of the output stands in `out`; give more room and call again. */
+ * ROOM: the output has more bytes than `out`, whose whole room a front of it fills; report->wanted is how much room is enough. Memory is taken for the
+ * output too, beside `out`. These are always enough: of `build`, `dual` and `xds` for each frame of the list 40 bytes and 6 for each triplet of the
+ * rate's frames (160 at 29.97 and 30, 100 at 59.94 and 60), of `pairs` 10 for each frame, of `verify` 3, of `load` 100. */
 
 /* A cue list in; out a line for each frame, of its pairs of both fields; or the words of each frame; or the list as it is written.
  * LIMIT, MALFORMED, RULE, NO_ROOM (not of cues), ROOM, MEMORY. */
@@ -183,8 +187,9 @@ typedef struct ccsuite_builder {
 /* Opens it at frame 0 of a cue list; `list` may go when this returns. LIMIT, MALFORMED, RULE, NO_ROOM, MEMORY. */
 uint32_t ccsuite_builder_open(const uint8_t *list, size_t list_size, ccsuite_builder *builder, ccsuite_report *report);
 
-/* Writes the ancillary packet of the next frame to the front of `out`, and its number of bytes to `*written`, which is 0 elsewhere. Takes no
- * memory. CLOSED; ROOM where `room` is below CCSUITE_PACKET_ROOM, and then the frame is still the next; END behind the last frame, from then on. */
+/* Writes the ancillary packet of the next frame to the front of `out`, and its number of bytes to `*written`. Takes no memory. CLOSED; ROOM where the
+ * packet has more bytes than `out`, and then `*written` is how many, `out` is as it was, and the frame is still the next; END after the last frame,
+ * from then on. Of CLOSED and END `*written` is 0. CCSUITE_PACKET_ROOM is always enough. */
 uint32_t ccsuite_builder_next(ccsuite_builder *builder, uint8_t *out, size_t room, size_t *written);
 
 void ccsuite_builder_close(ccsuite_builder *builder);
@@ -294,8 +299,8 @@ uint32_t ccsuite_receiver_window_cell(ccsuite_receiver *receiver, uint32_t servi
                                       ccsuite_window_cell *cell);
 
 /* Writes the text of what changed since the last call, or since the open, to the front of `out`, and its number of bytes to `*written`, which is
- * 0 elsewhere: called once a frame, all that `decode` prints of it, or the changes that `conceal` does. CLOSED, MEMORY; ROOM where `out` is too
- * small, and then these changes aren't written again: `_screens` writes all that is shown. */
+ * 0 elsewhere: called once a frame, all that `decode` prints of it, or the changes that `conceal` does. CLOSED, MEMORY; ROOM where the text has
+ * more bytes than `out`, and then these changes aren't written again: `_screens` writes all that is shown. */
 uint32_t ccsuite_receiver_changes(ccsuite_receiver *receiver, uint8_t *out, size_t room, size_t *written);
 
 /* The same of all that is shown, as `show` prints it. CLOSED, ROOM, MEMORY. */

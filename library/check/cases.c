@@ -20,8 +20,16 @@
         uint8_t behind[32];               \
     } name;                               \
     memset(&name, 0xEE, sizeof name)
+#define IS_POISONED(name) is_poisoned((const uint8_t *)&name, sizeof name)
 #define CHECK_BEHIND(name) \
     for (size_t i = 0; i < sizeof name.behind; i++) CHECK(name.behind[i] == 0xEE)
+
+/* whether nothing was written there */
+static bool is_poisoned(const uint8_t *bytes, size_t size) {
+    for (size_t i = 0; i < size; i++)
+        if (bytes[i] != 0xEE) return false;
+    return true;
+}
 
 static const char HELLO[] = "ccsuite,1,29.97,30\npop,CC1,0,7,20\nrun,15,0,yellow-u,HI\n";
 #define TEXT(text) (const uint8_t *)(text), sizeof(text) - 1
@@ -49,7 +57,11 @@ static void reports(void) {
     check_report(&r.it, 0, 0, "");
     CHECK(r.it.written == 4800 && r.it.cue == 0 && r.it.other == 0);
     CHECK(ccsuite_build(TEXT(HELLO), words, 4799, &r.it) == CCSUITE_ROOM);
-    CHECK(r.it.written == 4640);
+    check_report(&r.it, 3, 0, "too little room\n");
+    CHECK(r.it.written == 4799 && r.it.wanted == 4800);
+    memset(out, 0xEE, 4800);
+    CHECK(ccsuite_build(TEXT(HELLO), out, 4700, &r.it) == CCSUITE_ROOM && memcmp(out, words, 4700) == 0 && out[4700] == 0xEE);
+    CHECK(ccsuite_build(TEXT(HELLO), out, 4800, &r.it) == CCSUITE_OK && r.it.wanted == 0 && memcmp(out, words, 4799) == 0);
     CHECK(ccsuite_show(words, 4800, 30, out, sizeof out, &r.it) == CCSUITE_SHORT);
     check_report(&r.it, 10, 0, "short: 30 frames\n");
     CHECK(r.it.frame == 30);
@@ -112,13 +124,15 @@ static void receive(const uint8_t *list, size_t size, size_t frames, ccsuite_rec
 static void cells(const char *name) {
     size_t size;
     uint8_t *list = read_named(name, &size);
-    ccsuite_receiver receiver = {0};
+    ccsuite_receiver receiver = {0}, other = {0};
     POISONED(ccsuite_cell, cell);
     POISONED(ccsuite_window, window);
     POISONED(ccsuite_window_cell, wide);
     POISONED(ccsuite_frame, frame);
     POISONED(ccsuite_fed, fed);
     receive(TEXT(HELLO), 8, &receiver);
+    CHECK(ccsuite_receiver_cell(&receiver, 5, 15, 1, &cell.it) == CCSUITE_ARGUMENT && ccsuite_receiver_cell(&receiver, 1, 16, 1, &cell.it) == 1);
+    CHECK(ccsuite_receiver_cell(&other, 1, 15, 1, &cell.it) == CCSUITE_CLOSED && IS_POISONED(cell));
     CHECK(ccsuite_receiver_cell(&receiver, 1, 15, 1, &cell.it) == CCSUITE_OK);
     CHECK(cell.it.ch == 'I' && cell.it.colour == 5 && cell.it.italic == 0 && cell.it.underline == 1);
     CHECK(ccsuite_receiver_cell(&receiver, 2, 15, 1, &cell.it) == CCSUITE_OK && cell.it.ch == 0 && cell.it.colour == 0 && cell.it.italic == 0);
@@ -126,6 +140,15 @@ static void cells(const char *name) {
     CHECK(ccsuite_receiver_cell(&receiver, 1, 0, 1, &cell.it) == 1 && ccsuite_receiver_cell(&receiver, 1, 16, 1, &cell.it) == 1);
     CHECK(ccsuite_receiver_cell(&receiver, 1, 15, 32, &cell.it) == 1 && ccsuite_receiver_cell(&receiver, 1, 271, 1, &cell.it) == 1);
     CHECK_BEHIND(cell);
+    CHECK(IS_POISONED(frame) && ccsuite_receiver_open(&other, false) == CCSUITE_OK);
+    CHECK(ccsuite_receiver_frame(&other, &frame.it) == CCSUITE_NONE && IS_POISONED(frame));
+    ccsuite_receiver_close(&other);
+    CHECK(ccsuite_receiver_frame(&other, &frame.it) == CCSUITE_CLOSED && IS_POISONED(frame));
+    CHECK(ccsuite_receiver_window(&receiver, 1, 1, &window.it) == CCSUITE_NONE && ccsuite_receiver_window(&receiver, 64, 1, &window.it) == 1);
+    CHECK(ccsuite_receiver_window(&other, 1, 1, &window.it) == CCSUITE_CLOSED && IS_POISONED(window));
+    CHECK(ccsuite_receiver_window_cell(&receiver, 1, 1, 0, 0, &wide.it) == CCSUITE_NONE);
+    CHECK(ccsuite_receiver_window_cell(&receiver, 1, 1, 16, 0, &wide.it) == 1);
+    CHECK(ccsuite_receiver_window_cell(&other, 1, 1, 0, 0, &wide.it) == CCSUITE_CLOSED && IS_POISONED(wide));
     CHECK(ccsuite_receiver_frame(&receiver, &frame.it) == CCSUITE_OK);
     CHECK(frame.it.number == 7 && frame.it.missing == 0 && frame.it.frames == 8);
     CHECK_BEHIND(frame);
@@ -260,16 +283,22 @@ static void closed(void) {
         CHECK(ccsuite_builder_open(TEXT("x"), &builder, &r) == CCSUITE_MALFORMED && !builder.live && !builder.at);
         CHECK(ccsuite_builder_open(TEXT(HELLO), &builder, &r) == 0 && ccsuite_receiver_open(&receiver, true) == 0);
         CHECK(ccsuite_verifier_open(TEXT(HELLO), &verifier, &r) == 0 && ccsuite_receiver_frame(&receiver, &frame) == CCSUITE_NONE);
-        CHECK(ccsuite_builder_next(&builder, packet, 523, &written) == CCSUITE_ROOM && written == 0);
-        for (int n = 0; n < 30; n++) CHECK(ccsuite_builder_next(&builder, packet, 524, &written) == 0 && written == 160);
-        CHECK(ccsuite_builder_next(&builder, packet, 524, &written) == CCSUITE_END && ccsuite_builder_next(&builder, packet, 524, &written) == CCSUITE_END);
+        CHECK(ccsuite_builder_next(&builder, packet, 159, &written) == CCSUITE_ROOM && written == 160 && packet[0] == 0xEE);
+        for (int n = 0; n < 30; n++) CHECK(ccsuite_builder_next(&builder, packet, 160, &written) == 0 && written == 160);
+        CHECK(ccsuite_builder_next(&builder, packet, 524, &written) == CCSUITE_END && written == 0);
+        CHECK(ccsuite_builder_next(&builder, packet, 0, &written) == CCSUITE_END && written == 0);
         CHECK(ccsuite_verifier_open(TEXT("x"), &verifier, &r) == CCSUITE_MALFORMED && !verifier.live && !verifier.at);
         CHECK(ccsuite_verifier_open(TEXT(HELLO), &verifier, &r) == 0);
         /* of another kind */
         CHECK(ccsuite_builder_next((ccsuite_builder *)&receiver, packet, sizeof packet, &written) == CCSUITE_CLOSED && written == 0);
         CHECK(ccsuite_receiver_feed((ccsuite_receiver *)&verifier, packet, 2, &fed) == CCSUITE_CLOSED && fed.used == 0);
         CHECK(ccsuite_receiver_frame((ccsuite_receiver *)&builder, &frame) == CCSUITE_CLOSED);
-        CHECK(ccsuite_verifier_verdict((ccsuite_verifier *)&builder, &r) == CCSUITE_CLOSED && builder.live && receiver.live && verifier.live);
+        CHECK(ccsuite_verifier_verdict((ccsuite_verifier *)&builder, &r) == CCSUITE_CLOSED);
+        ccsuite_builder_close((ccsuite_builder *)&receiver);
+        ccsuite_receiver_close((ccsuite_receiver *)&verifier);
+        ccsuite_verifier_close((ccsuite_verifier *)&builder);
+        CHECK(builder.live && receiver.live && verifier.live);
+        CHECK(ccsuite_receiver_frame(&receiver, &frame) == CCSUITE_NONE && ccsuite_verifier_verdict(&verifier, &r) == CCSUITE_SHORT);
         packet[0] = 0xEE;
         for (int n = 0; n < 2; n++) {
             ccsuite_builder_close(&builder);
@@ -345,6 +374,12 @@ void *__wrap_realloc(void *block, size_t size) { return taken++ == refused ? NUL
     printf("  %s: %ld refused allocations of %ld answered MEMORY\n", #call, count, taken);                                  \
     CHECK(count > 0)
 
+/* A call that takes no memory: each allocation would be refused, and none is tried. */
+#define TAKES_NONE(call)                          \
+    taken = refused = 0;                          \
+    CHECK((call) == CCSUITE_OK && taken == 0);    \
+    refused = -1
+
 static void refusals(void) {
     static uint8_t words[10000], out[10000];
     const uint8_t *list = (const uint8_t *)HELLO;
@@ -354,6 +389,9 @@ static void refusals(void) {
     ccsuite_builder builder = {0};
     ccsuite_receiver receiver = {0};
     ccsuite_verifier verifier = {0};
+    ccsuite_fed fed;
+    ccsuite_frame frame;
+    ccsuite_cell cell;
     size_t written;
     CHECK(ccsuite_build(list, size, words, sizeof words, &r) == CCSUITE_OK);
     REFUSE(ccsuite_build(list, size, out, sizeof out, &r));
@@ -374,6 +412,15 @@ static void refusals(void) {
     REFUSE(ccsuite_receiver_changes(&receiver, out, sizeof out, &written));
     REFUSE(ccsuite_receiver_screens(&receiver, out, sizeof out, &written));
     REFUSE(ccsuite_verifier_open(list, size, &verifier, &r));
+    for (int n = 0; n < 30; n++) {
+        TAKES_NONE(ccsuite_builder_next(&builder, out, sizeof out, &written));
+        TAKES_NONE(ccsuite_receiver_feed(&receiver, out, written, &fed));
+        TAKES_NONE(ccsuite_verifier_feed(&verifier, out, written, &fed));
+    }
+    TAKES_NONE(ccsuite_receiver_finish(&receiver, &fed));
+    TAKES_NONE(ccsuite_receiver_frame(&receiver, &frame));
+    TAKES_NONE(ccsuite_receiver_cell(&receiver, 1, 15, 0, &cell));
+    TAKES_NONE(ccsuite_verifier_verdict(&verifier, &r));
     ccsuite_builder_close(&builder);
     ccsuite_receiver_close(&receiver);
     ccsuite_verifier_close(&verifier);

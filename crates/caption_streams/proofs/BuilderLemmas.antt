@@ -1,34 +1,84 @@
 -- A builder goes to its next frame.
-use Rattle.std.proofs.Common.{◌≡◌, ◌∙◌, ◌+◌, ap, sym, subst, ℕ, List, add-one, arith}
+use Rattle.std.proofs.Common.{◌≡◌, ◌∙◌, ◌+◌, ◌<◌, ap, sym, subst, refl, ℕ, add-one, arith}
+use Rattle.std.specs.Prelude.{IfNone, IfSome, IsSome, MatchOption, None, Option, Some}
 use Rattle.cc_base.specs.declared.rate.Rate.{Rate}
 use Rattle.cue_lists.specs.Listing.{Listing}
-use Rattle.frame_carrier.specs.Carrying.{IsAt, channel_packet, frame_bytes, packet_count, packets_before}
+use Rattle.frame_carrier.specs.Carrying.{IsAt, packet_count, packets_before}
 use Rattle.frame_carrier.specs.declared.carrier.Carrier.{Carrier}
 use Rattle.frame_scheduler.specs.Columns.{Columns}
 use Rattle.frame_scheduler.specs.Frames.{GivesFrom, frames_left}
 use Rattle.frame_scheduler.specs.Planned.{Placement, columns_of}
 use Rattle.frame_scheduler.specs.declared.frames.FrameBytes.{FrameBytes}
 use Rattle.frame_scheduler.specs.declared.frames.Plan.{Plan}
-use Rattle.caption_streams.specs.Builders.{HasGiven, IsBuilding}
+use Rattle.caption_streams.specs.Builders.{IsAhead, IsBuilding, count_of}
 use Rattle.caption_streams.specs.declared.building.Building.{Building}
 
-pub stepped : (list : Listing) (placed : Placement) (frame : ℕ) (b : Building) (plan : Plan) (carrier : Carrier) (pairs : FrameBytes) (words : List ℕ)
-    → IsBuilding list placed frame b → frames_left plan + 1 ≡ frames_left b.plan
-    → ((columns : Columns) (frame : ℕ) → GivesFrom columns frame b.plan → (pairs ≡ columns frame) × GivesFrom columns (frame + 1) plan)
-    → ((rate : Rate) (frame count : ℕ) → IsAt rate frame count b.carrier → words ≡ frame_bytes rate frame pairs (channel_packet count pairs.blocks.items))
-    → ((rate : Rate) (frame count : ℕ) → IsAt rate frame count b.carrier → IsAt rate (frame + 1) (count + packet_count pairs.blocks.items) carrier)
-    → HasGiven list placed frame words (record { plan = plan; carrier = carrier })
-stepped list placed frame b plan carrier pairs words is fewer gives carries moves =
-    let columns = columns_of list placed in let (pairs_are, behind) = gives columns frame is.gives in let at = packets_before columns frame in
-    let total : frame + frames_left b.plan ≡ list.frames = is.left in
-    let packets : at + packet_count pairs.blocks.items ≡ packets_before columns (frame + 1) =
-    ap (λ (p : FrameBytes). at + packet_count p.blocks.items) pairs_are ∙ ap (packets_before columns) (sym (add-one frame)) in
+-- a frame that is there counts
+counted : (ahead : Option FrameBytes) → IsSome ahead → count_of ahead ≡ 1
+counted (Some bytes) some = refl
+counted None some = cc
+
+-- the plan gives the frames behind it
+behind_it : (columns : Columns) (frame : ℕ) (plan : Plan) (ahead : Option FrameBytes) → IsSome ahead → IsAhead columns frame plan ahead → GivesFrom columns (frame + 1) plan
+behind_it columns frame plan (Some bytes) some is = is.1
+behind_it columns frame plan None some is = cc
+
+-- where a frame is ahead, it is one of the list's
+pub one_more : (list : Listing) (placed : Placement) (frame : ℕ) (b : Building) → IsBuilding list placed frame b → IsSome b.ahead → frame < list.frames
+one_more list placed frame b is some =
+    let left : frame + (count_of b.ahead + frames_left b.plan) ≡ list.frames = is.left in
+    omega (arith, left, counted b.ahead some)
+
+-- and what is made of it, by its number and that of the channel packets before it, is what is made of its column
+pub made_next : {A : Type 0} (make : Rate → ℕ → ℕ → FrameBytes → A) (list : Listing) (placed : Placement) (frame : ℕ) (b : Building) (bytes : FrameBytes) (made : A)
+    → IsBuilding list placed frame b → b.ahead ≡ Some bytes
+    → ((rate : Rate) (number count : ℕ) → IsAt rate number count b.carrier → made ≡ make rate number count bytes)
+    → made ≡ make list.rate frame (packets_before (columns_of list placed) frame) (columns_of list placed frame)
+made_next make list placed frame b bytes made is e makes =
+    let columns = columns_of list placed in let before = packets_before columns frame in
+    let ahead = subst (λ (o : Option FrameBytes). IsAhead columns frame b.plan o) e is.gives in
+    makes list.rate frame before is.at ∙ ap (make list.rate frame before) ahead.0
+
+-- the carrier is then at the frame behind it
+pub carried_next : (list : Listing) (placed : Placement) (frame : ℕ) (b : Building) (bytes : FrameBytes) (carrier : Carrier)
+    → IsBuilding list placed frame b → b.ahead ≡ Some bytes
+    → ((rate : Rate) (number count : ℕ) → IsAt rate number count b.carrier → IsAt rate (number + 1) (count + packet_count bytes.blocks.items) carrier)
+    → IsAt list.rate (frame + 1) (packets_before (columns_of list placed) (frame + 1)) carrier
+carried_next list placed frame b bytes carrier is e moves =
+    let columns = columns_of list placed in let before = packets_before columns frame in
+    let ahead = subst (λ (o : Option FrameBytes). IsAhead columns frame b.plan o) e is.gives in
+    let packets : before + packet_count bytes.blocks.items ≡ packets_before columns (frame + 1) =
+    ap (λ (p : FrameBytes). before + packet_count p.blocks.items) ahead.0 ∙ ap (packets_before columns) (sym (add-one frame)) in
+    subst (λ n. IsAt list.rate (frame + 1) n carrier) packets (moves list.rate frame before is.at)
+
+-- the plan gives the frame behind it, or there is none
+pub passed : (list : Listing) (placed : Placement) (frame : ℕ) (b : Building) (plan : Plan) (carrier : Carrier) (ahead : Option FrameBytes)
+    → IsBuilding list placed frame b → IsSome b.ahead
+    → MatchOption ahead (frames_left b.plan ≡ 0) (λ next. frames_left plan + 1 ≡ frames_left b.plan)
+    → IfNone ahead (frames_left plan ≡ 0)
+    → ((columns : Columns) (at : ℕ) → GivesFrom columns at b.plan → IfSome ahead (λ next. (next ≡ columns at) × GivesFrom columns (at + 1) plan))
+    → IsAt list.rate (frame + 1) (packets_before (columns_of list placed) (frame + 1)) carrier
+    → IsBuilding list placed (frame + 1) (record { plan = plan; carrier = carrier; ahead = ahead })
+passed list placed frame b plan carrier None is some left none gives at =
+    let total : frame + (count_of b.ahead + frames_left b.plan) ≡ list.frames = is.left in
+    record { gives = none; left = omega (arith, left, none, total, counted b.ahead some); at = at }
+passed list placed frame b plan carrier (Some next) is some left none gives at =
+    let columns = columns_of list placed in
+    let total : frame + (count_of b.ahead + frames_left b.plan) ≡ list.frames = is.left in
     record {
-      more = omega arith;
-      words_are = carries list.rate frame at is.at ∙ ap (λ (p : FrameBytes). frame_bytes list.rate frame p (channel_packet at p.blocks.items)) pairs_are;
-      next = record {
-        gives = behind;
-        left = omega arith;
-        at = subst (λ n. IsAt list.rate (frame + 1) n carrier) packets (moves list.rate frame at is.at);
-      };
+      gives = gives columns (frame + 1) (behind_it columns frame b.plan b.ahead some is.gives);
+      left = omega (arith, left, total, counted b.ahead some);
+      at = at;
     }
+
+-- a builder begins at frame 0 of a plan that has given nothing
+pub begun : (list : Listing) (placed : Placement) (before plan : Plan) (carrier : Carrier) (ahead : Option FrameBytes)
+    → GivesFrom (columns_of list placed) 0 before → frames_left before ≡ list.frames
+    → MatchOption ahead (frames_left before ≡ 0) (λ next. frames_left plan + 1 ≡ frames_left before)
+    → IfNone ahead (frames_left plan ≡ 0)
+    → ((columns : Columns) (at : ℕ) → GivesFrom columns at before → IfSome ahead (λ next. (next ≡ columns at) × GivesFrom columns (at + 1) plan))
+    → IsAt list.rate 0 0 carrier → IsBuilding list placed 0 (record { plan = plan; carrier = carrier; ahead = ahead })
+begun list placed before plan carrier None given count left none gives at =
+    record { gives = none; left = omega (arith, count, left, none); at = at }
+begun list placed before plan carrier (Some next) given count left none gives at =
+    record { gives = gives (columns_of list placed) 0 given; left = omega (arith, count, left); at = at }

@@ -40,7 +40,7 @@ abbrev pub AnswersVerified : List ℕ → List ℕ → Verifier → Verifier →
 AnswersVerified before bytes old new (Ok fed) = (finding_of old ≡ None) × VerifiesOn before bytes old new (take fed.used bytes) (Ok fed)
 AnswersVerified before bytes old new (Err (fault.Refused refusal)) = (finding_of old ≡ None) × VerifiesOn before bytes old new bytes (Err refusal)
 AnswersVerified before bytes old new (Err (fault.Found finding)) = (new ≡ old) × (finding_of old ≡ Some finding)
-AnswersVerified before bytes old new (Err fault.TooManyFrames) = (new ≡ old) × (4294967295 ≤ verified_frames old)
+AnswersVerified before bytes old new (Err fault.TooManyFrames) = (finding_of old ≡ None) × (new ≡ old) × (4294967295 ≤ verified_frames old)
 
 -- this status is the verdict on the bytes that were fed, if they end here
 abbrev pub IsVerdictOn : List ℕ → Verifier → Status → Type 0

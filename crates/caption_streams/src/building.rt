@@ -1,18 +1,30 @@
-ghost use Rattle.std.specs.Prelude.{◌≡◌, [], ◌⊎◌, ℕ, List, IfErr, IfOk, false};
+ghost use Rattle.std.specs.Prelude.{◌≡◌, ◌+◌, ◌⊎◌, [], ℕ, List, IfErr, IfOk, IsSome, None, Option};
 ghost use Rattle.command_base.specs.declared.status.Status.TheVariants as status;
 ghost use Rattle.cue_list_commands.specs.Accepted.{IsRefused};
 ghost use Rattle.cue_list_commands.specs.Reads.{IsProgrammeOf};
 ghost use Rattle.cue_lists.specs.Listing.{Listing};
-ghost use Rattle.frame_scheduler.specs.Planned.{Placement};
-ghost use Rattle.caption_streams.specs.Builders.{Begins, GivesNext, IsBuilding, frames_to_come};
+ghost use Rattle.frame_carrier.specs.Carrying.{IsAt, packets_before};
+ghost use Rattle.frame_scheduler.specs.Planned.{Placement, columns_of};
+ghost use Rattle.caption_streams.specs.Builders.{Begins, GivesNext, IsBuilding, IsCarriedNext, IsOver, frames_to_come, packet_of};
 
 use crate::slice_source::SliceSource;
 use arrayvec::ArrayVec;
 use command_base::Status;
 use cue_list_commands::read_programme;
 use frame_carrier::{Carrier, Programme};
-use frame_scheduler::{Frames, Plan};
+use frame_scheduler::{FrameBytes, Frames, Plan};
 use std::alloc::Global;
+
+/// What came of asking a builder for its next frame.
+#[derive(Clone, Copy, PartialEq, Eq)]
+pub enum NextFrame {
+    /// So many bytes of it stand in the output.
+    Given(usize),
+    /// It has so many bytes, and the output has fewer.
+    NoRoom(usize),
+    /// There is no further frame.
+    Over,
+}
 
 /// The frames of an accepted cue list on their way to ancillary packets, one after another (SMPTE ST 291-1, ST 334-1 and ST 334-2).
 ///
@@ -21,6 +33,8 @@ use std::alloc::Global;
 pub struct Building {
     pub(crate) plan: Plan,
     pub(crate) carrier: Carrier,
+    // The next frame; None after the last one.
+    pub(crate) ahead: Option<FrameBytes>,
 }
 
 impl Building {
@@ -38,29 +52,71 @@ impl Building {
     pub fn new(programme: Programme<Plan>) -> Building
         ensures { (bytes : List ℕ) → IsProgrammeOf bytes programme → Begins bytes result }
     {
+        let mut plan = programme.frames;
+        let ahead = plan.next();
         Building {
+            plan,
             carrier: Carrier::new(programme.rate),
-            plan: programme.frames,
+            ahead,
         }
     }
 
-    /// Writes the ancillary packet of the next frame into an empty `words`, and says whether there was one; behind the last frame
-    /// nothing is written.
-    pub fn next(&mut self, words: &mut ArrayVec<u8, 524>) -> bool
-        requires { words.old.items ≡ [] }
+    /// Writes the ancillary packet of the next frame to the front of `out`. Where that has too little room, nothing is written, and the
+    /// frame is still the next; so after the last frame.
+    pub fn next(&mut self, out: &mut [u8]) -> NextFrame
         ensures next { (list : Listing) (placed : Placement) (frame : ℕ)
             → IsBuilding list placed frame self.old
-            → GivesNext list placed frame result words.new.items self.new }
-        ensures over { frames_to_come self.old ≡ 0
-            → (result ≡ false) × (frames_to_come self.new ≡ 0) }
-        ensures none { result ≡ false → (frames_to_come self.old ≡ 0) × (words.new.items ≡ []) }
+            → GivesNext list placed frame (packet_of list placed frame)
+            out.old out.new self.old self.new result }
+        ensures over { frames_to_come self.old ≡ 0 → IsOver out.old out.new self.old self.new result }
     {
-        match self.plan.next() {
-            Some(frame) => {
-                self.carrier.put_words(&frame, words);
-                true
-            }
-            None => false,
+        let mut words = ArrayVec::new();
+        match self.carry_words(&mut words) {
+            Some(carrier) => self.give(&words, carrier, out),
+            None => NextFrame::Over,
         }
+    }
+
+    // Writes the ancillary packet of the next frame, if there is one, into an empty `words`: the carrier behind it.
+    fn carry_words(&self, words: &mut ArrayVec<u8, 524>) -> Option<Carrier>
+        requires { words.old.items ≡ [] }
+        ensures next { (list : Listing) (placed : Placement) (frame : ℕ)
+            → IsBuilding list placed frame self.now
+            → IsCarriedNext list placed frame (packet_of list placed frame)
+            self.now words.new.items result }
+        ensures over { frames_to_come self.now ≡ 0 → result ≡ None }
+    {
+        let Some(frame) = &self.ahead else {
+            return None;
+        };
+        let mut carrier = self.carrier;
+        carrier.put_words(frame, words);
+        Some(carrier)
+    }
+
+    // Gives the bytes of the next frame, behind which the carrier is this one.
+    fn give(&mut self, bytes: &[u8], carrier: Carrier, out: &mut [u8]) -> NextFrame
+        ensures { (list : Listing) (placed : Placement) (frame : ℕ) (packet : List ℕ)
+            → IsBuilding list placed frame self.old
+            → IsCarriedNext list placed frame packet self.old bytes.now (Some carrier)
+            → GivesNext list placed frame packet out.old out.new self.old self.new result }
+    {
+        if out.len() < bytes.len() {
+            return NextFrame::NoRoom(bytes.len());
+        }
+        out[..bytes.len()].copy_from_slice(bytes);
+        self.pass(carrier);
+        NextFrame::Given(bytes.len())
+    }
+
+    // Passes to the frame behind the next one.
+    fn pass(&mut self, carrier: Carrier)
+        ensures { (list : Listing) (placed : Placement) (frame : ℕ)
+            → IsBuilding list placed frame self.old → IsSome self.old.ahead
+            → IsAt list.rate (frame + 1) (packets_before (columns_of list placed) (frame + 1)) carrier
+            → IsBuilding list placed (frame + 1) self.new }
+    {
+        self.carrier = carrier;
+        self.ahead = self.plan.next();
     }
 }

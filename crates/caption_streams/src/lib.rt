@@ -3,7 +3,7 @@
 //! from one call to the next.
 #![tactic(auto)]
 
-pub use crate::building::Building;
+pub use crate::building::{Building, NextFrame};
 pub use crate::fault::FeedFault;
 pub use crate::receiving::Receiving;
 pub use crate::reception::Reception;
@@ -12,6 +12,7 @@ pub use crate::verifying::Verifying;
 
 mod building;
 mod fault;
+mod front;
 mod receiving;
 mod reception;
 mod slice_source;

@@ -1,10 +1,11 @@
-ghost use Rattle.std.specs.Prelude.{◌≡◌, ◌≤◌, ◌<◌, ℕ, List, [], IfErr, IfOk, None, length};
+ghost use Rattle.std.specs.Prelude.{◌≡◌, ◌≤◌, ◌<◌, ℕ, List, [], IfErr, IfOk, None, OnErr, length, take};
 ghost use Rattle.cc_base.specs.Streams.{PutCause, Puts};
 ghost use Rattle.cc_receiver.specs.declared.receiver.Ended.TheVariants as ended;
 ghost use Rattle.cdp_packets.specs.Packets.{Frame};
 ghost use Rattle.caption_streams.specs.Receptions.{HasFed};
 
 use crate::fault::FeedFault;
+use crate::front::Front;
 use crate::reception::Reception;
 use cc_base::{Put, Sink};
 use cc_conceal::Concealer;
@@ -99,6 +100,24 @@ impl Receiving {
         self.shown.put_changes_of(&self.reception, number, out)
     }
 
+    /// The front of that text, of so many bytes at most. These screens are then the ones that were put last. The error comes where memory
+    /// isn't found, and then nothing changed.
+    pub fn front_of_changes(&mut self, alloc: Global, most: usize) -> Result<Vec<u8>, AllocError>
+        ensures text { (frames : List Frame) → StandsBehind frames (reception_of self.old)
+            → IfOk result (λ front. front.items ≡ take most
+            (changes_text (number_behind (reception_of self.old) frames) (last_screens self.old)
+            (screens_behind (reception_of self.old) frames))) }
+        ensures last { (frames : List Frame) → StandsBehind frames (reception_of self.old)
+            → IfOk result (λ _. LookAlike (last_screens self.new)
+            (screens_behind (reception_of self.old) frames)) }
+        ensures reception { reception_of self.new ≡ reception_of self.old }
+        ensures memory { OnErr result (self.new ≡ self.old) }
+    {
+        let mut front = Front::new(alloc, most)?;
+        let _ = self.put_changes(&mut front);
+        Ok(front.into_bytes())
+    }
+
     /// Puts the text of all screens behind the last whole frame, as `show` prints it; behind no frame, with the number 0.
     pub fn put_screens<O: Sink>(&self, out: &mut O) -> Put
         ensures bytes { (frames : List Frame) → StandsBehind frames (reception_of self.now)
@@ -108,6 +127,18 @@ impl Receiving {
         ensures cause { PutCause (O.faults out.old) (O.faults out.new) result }
     {
         put_all_of(&self.reception, self.last_number(), out)
+    }
+
+    /// The front of that text, of so many bytes at most. The error comes where memory isn't found.
+    pub fn front_of_screens(&self, alloc: Global, most: usize) -> Result<Vec<u8>, AllocError>
+        ensures { (frames : List Frame) → StandsBehind frames (reception_of self.now)
+            → IfOk result (λ front. front.items ≡ take most
+            (all_text (number_behind (reception_of self.now) frames)
+            (screens_behind (reception_of self.now) frames))) }
+    {
+        let mut front = Front::new(alloc, most)?;
+        let _ = self.put_screens(&mut front);
+        Ok(front.into_bytes())
     }
 
     // The number of the last whole frame; 0 where there is none.

@@ -1,6 +1,6 @@
 -- Between crates: the program's answer stands on none of these definitions.
 -- Receivers, as C holds them.
-use Rattle.std.specs.Prelude.{◌≡◌, ◌⊎◌, ◌<◌, ◌++◌, ℕ, Bool, true, false, List, [], length, drop, Option, Some, None, Result}
+use Rattle.std.specs.Prelude.{◌≡◌, ◌⊎◌, ◌<◌, ◌≤◌, ◌++◌, ℕ, Bool, true, false, List, [], length, drop, Option, Some, None, Result}
 use Rattle.caption_streams.specs.Receivings.{last_screens, reception_of}
 use Rattle.caption_streams.specs.Receptions.{AnswersFed, HasFed, IsConcealing, IsPlain, frame_total, grids_behind, missing_behind, number_behind, screens_behind}
 use Rattle.caption_streams.specs.declared.fault.FeedFault.{FeedFault}
@@ -65,11 +65,11 @@ EndAnswer bytes code told =
     ⊎ ((code ≡ refused_code)
     × ((refusal : Refusal) × IsMalformed caption_channel bytes refusal × (told ≡ refused_so refusal.place (reason_number refusal.why))))
 
--- the last of frames is told, or there is none
-abbrev pub FrameAnswer : Reception → List Frame → ℕ → FrameSeen → Type 0
-FrameAnswer reception frames code seen =
-    ((code ≡ 0) × (seen ≡ record { number = number_behind reception frames; missing = missing_behind reception frames; frames = frame_total reception }))
-    ⊎ ((code ≡ none_code) × (frame_total reception ≡ 0))
+-- the last of frames is told, or there is none, and nothing is told
+abbrev pub FrameAnswer : Reception → List Frame → ℕ → FrameSeen → FrameSeen → Type 0
+FrameAnswer reception frames code old new =
+    ((code ≡ 0) × (new ≡ record { number = number_behind reception frames; missing = missing_behind reception frames; frames = frame_total reception }))
+    ⊎ ((code ≡ none_code) × (frame_total reception ≡ 0) × (new ≡ old))
 
 -- no channel has this number, or no cell stands there
 abbrev pub IsNoCell : Option Chan → ℕ → ℕ → Type 0
@@ -77,10 +77,10 @@ IsNoCell None row column = Unit {0}
 IsNoCell (Some chan) row column = (row < 1) ⊎ ((15 < row) ⊎ (31 < column))
 
 -- the displayed cell is told, or there is no such place
-abbrev pub CellAnswer : Reception → List Frame → ℕ → ℕ → ℕ → ℕ → TextCell → Type 0
-CellAnswer reception frames channel row column code cell =
-    ((code ≡ 0) × ((chan : Chan) × (chan_of channel ≡ Some chan) × (cell ≡ text_cell (grids_behind reception frames chan row column))))
-    ⊎ ((code ≡ argument_code) × IsNoCell (chan_of channel) row column)
+abbrev pub CellAnswer : Reception → List Frame → ℕ → ℕ → ℕ → ℕ → TextCell → TextCell → Type 0
+CellAnswer reception frames channel row column code old new =
+    ((code ≡ 0) × ((chan : Chan) × (chan_of channel ≡ Some chan) × (new ≡ text_cell (grids_behind reception frames chan row column))))
+    ⊎ ((code ≡ argument_code) × IsNoCell (chan_of channel) row column × (new ≡ old))
 
 -- a service may have a window of this id
 pub record HasWindowPlace (service id : ℕ) : Type 0 where
@@ -94,17 +94,18 @@ pub record HasCellPlace (service id row column : ℕ) : Type 0 where
   pub in_columns : column < 64
 
 -- the window is told, or there is none
-abbrev pub WindowAnswer : Option WindowState → ℕ → WindowSeen → Type 0
-WindowAnswer (Some window) code seen = (code ≡ 0) × (seen ≡ window_seen window)
-WindowAnswer None code seen = code ≡ none_code
+abbrev pub WindowAnswer : Option WindowState → ℕ → WindowSeen → WindowSeen → Type 0
+WindowAnswer (Some window) code old new = (code ≡ 0) × (new ≡ window_seen window)
+WindowAnswer None code old new = (code ≡ none_code) × (new ≡ old)
 
 -- and its cell at a place
-abbrev pub WindowCellAnswer : Option WindowState → ℕ → ℕ → ℕ → WindowCell → Type 0
-WindowCellAnswer (Some window) row column code cell = (code ≡ 0) × (cell ≡ window_cell (window.cells row column))
-WindowCellAnswer None row column code cell = code ≡ none_code
+abbrev pub WindowCellAnswer : Option WindowState → ℕ → ℕ → ℕ → WindowCell → WindowCell → Type 0
+WindowCellAnswer (Some window) row column code old new = (code ≡ 0) × (new ≡ window_cell (window.cells row column))
+WindowCellAnswer None row column code old new = (code ≡ none_code) × (new ≡ old)
 
 -- a text stands at the front of the output, whose other bytes are as they were, and its length is told
 pub record TextStands (text before after : List ℕ) (count : ℕ) : Type 0 where
+  pub fits : length text ≤ length before
   pub count_is : count ≡ length text
   pub stands : after ≡ text ++ drop count before
 
@@ -113,10 +114,11 @@ pub record IsUntouched (before after : List ℕ) (count : ℕ) : Type 0 where
   pub untouched : after ≡ before
   pub nothing : count ≡ 0
 
--- a text is handed out, or there is too little room
+-- a text is handed out, or it has more bytes than there is room for
 abbrev pub HandsOut : List ℕ → List ℕ → List ℕ → ℕ → ℕ → Type 0
 HandsOut text before after code count =
-    ((code ≡ 0) × TextStands text before after count) ⊎ ((code ≡ room_code) × IsUntouched before after count)
+    ((code ≡ 0) × TextStands text before after count)
+    ⊎ ((code ≡ room_code) × (length before < length text) × IsUntouched before after count)
 
 -- the screens behind frames were put, and nothing else changed
 pub record HasPutScreens (frames : List Frame) (old new : Receiving) : Type 0 where

@@ -1,14 +1,16 @@
 -- Between crates: the program's answer stands on none of these definitions.
--- What C is told of bytes that were fed.
+-- What C is told of bytes that were fed, and of a frame that was asked for.
 use Rattle.std.specs.Prelude.{◌≡◌, ℕ, Result, Ok, Err}
 use Rattle.cc_base.specs.Why.{reason_number}
 use Rattle.cc_base.specs.declared.refusal.Refusal.{Refusal}
 use Rattle.cc_receiver.specs.declared.receiver.Ended.{Ended}
 use Rattle.cc_receiver.specs.declared.receiver.Ended.TheVariants as ended
 use Rattle.cc_receiver.specs.declared.receiver.Fed.{Fed}
+use Rattle.caption_streams.specs.declared.building.NextFrame.{NextFrame}
+use Rattle.caption_streams.specs.declared.building.NextFrame.TheVariants as asked
 use Rattle.caption_streams.specs.declared.fault.FeedFault.{FeedFault}
 use Rattle.caption_streams.specs.declared.fault.FeedFault.TheVariants as fault
-use Rattle.ccsuite_c.specs.Codes.{found_code, full_code, refused_code}
+use Rattle.ccsuite_c.specs.Codes.{end_code, found_code, full_code, refused_code, room_code}
 use Rattle.ccsuite_c.specs.declared.told.FedBytes.{FedBytes}
 
 abbrev pub ended_number : Ended → ℕ
@@ -35,3 +37,9 @@ TellsFed (Err fault.TooManyFrames) code told = (code ≡ full_code) × (told ≡
 abbrev pub TellsEnd : {A : Type 0} → Result A Refusal → ℕ → FedBytes → Type 0
 TellsEnd (Ok done) code told = (code ≡ 0) × (told ≡ read_so 0 0)
 TellsEnd (Err refusal) code told = (code ≡ refused_code) × (told ≡ refused_so refusal.place (reason_number refusal.why))
+
+-- of a frame that was asked for: the number of its bytes, written or wanted
+abbrev pub TellsNext : NextFrame → ℕ → ℕ → Type 0
+TellsNext (asked.Given bytes) code count = (code ≡ 0) × (count ≡ bytes)
+TellsNext (asked.NoRoom bytes) code count = (code ≡ room_code) × (count ≡ bytes)
+TellsNext asked.Over code count = (code ≡ end_code) × (count ≡ 0)

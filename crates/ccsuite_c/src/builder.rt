@@ -1,7 +1,7 @@
-ghost use Rattle.std.specs.Prelude.{◌≡◌, ◌≤◌, ℕ, None, Some, IfErr, IfOk, length};
+ghost use Rattle.std.specs.Prelude.{◌≡◌, ℕ, None, Some, IfErr, IfOk};
 ghost use Rattle.cue_lists.specs.Listing.{Listing};
 ghost use Rattle.caption_streams.specs.Planned.{Placement};
-ghost use Rattle.caption_streams.specs.Builders.{Begins, IsBuilding, frames_to_come};
+ghost use Rattle.caption_streams.specs.Builders.{Begins, IsBuilding, frames_to_come, packet_of};
 ghost use Rattle.caption_streams.specs.declared.building.Building.{Building as BuildingOf};
 ghost use Rattle.ccsuite_c.specs.Builders.{NextAnswer, Opening, OverAnswer, Refuses};
 ghost use Rattle.ccsuite_c.specs.Codes.{closed_code};
@@ -11,15 +11,11 @@ ghost use Rattle.ccsuite_c.specs.declared.state.State.TheVariants as held;
 
 use crate::handle::Handle;
 use crate::state::State;
-use crate::told::{CLOSED, END, ROOM};
-use arrayvec::ArrayVec;
+use crate::told::{CLOSED, tell_next};
 use caption_streams::Building;
 use command_base::Status;
 use reported_runs::{Report, report_of};
 use std::alloc::Global;
-
-/// The most bytes of a frame's ancillary packet.
-const PACKET_ROOM: usize = 524;
 
 /// Opens a builder of a cue list, at its frame 0; what the handle held before is freed. A list that is refused leaves it closed.
 #[unsafe(no_mangle)]
@@ -57,8 +53,9 @@ fn open(alloc: Global, list: &[u8]) -> Result<Box<State>, Status>
     }
 }
 
-/// Writes the ancillary packet of the next frame to the front of `out`, and the number of its bytes: 0. Where nothing is written: 32 where
-/// there is no open builder, 3 where `out` has room for fewer than 524 bytes, 33 behind the last frame.
+/// Writes the ancillary packet of the next frame to the front of `out`, and the number of its bytes to `written`: 0. Where nothing is
+/// written: 32 where there is no open builder, 33 after the last frame; 3 where the packet has more bytes than `out`, and then `written` is
+/// how many, and the frame is still the next.
 #[unsafe(no_mangle)]
 pub extern "C" fn ccsuite_builder_next(
     alloc: Global,
@@ -69,7 +66,8 @@ pub extern "C" fn ccsuite_builder_next(
     ensures next { (b : BuildingOf) (list : Listing) (placed : Placement) (frame : ℕ)
         → state_in builder.old ≡ Some (held.Building b)
         → IsBuilding list placed frame b
-        → NextAnswer list placed frame b out.old out.new result written.new (state_in builder.new) }
+        → NextAnswer list placed frame (packet_of list placed frame)
+        b out.old out.new result written.new (state_in builder.new) }
     ensures over { (b : BuildingOf) → state_in builder.old ≡ Some (held.Building b)
         → frames_to_come b ≡ 0
         → OverAnswer b out.old out.new result written.new (state_in builder.new) }
@@ -95,7 +93,8 @@ fn next(state: &mut State, out: &mut [u8], written: &mut usize) -> u32
     ensures next { (b : BuildingOf) (list : Listing) (placed : Placement) (frame : ℕ)
         → state.old ≡ held.Building b
         → IsBuilding list placed frame b
-        → NextAnswer list placed frame b out.old out.new result written.new (Some state.new) }
+        → NextAnswer list placed frame (packet_of list placed frame)
+        b out.old out.new result written.new (Some state.new) }
     ensures over { (b : BuildingOf) → state.old ≡ held.Building b → frames_to_come b ≡ 0
         → OverAnswer b out.old out.new result written.new (Some state.new) }
     ensures closed { IsNoBuilder state.old
@@ -103,42 +102,35 @@ fn next(state: &mut State, out: &mut [u8], written: &mut usize) -> u32
         × StaysSo out.old out.new written.new (Some state.old) (Some state.new) }
     ensures fed { WasFed state.new }
 {
-    let State::Building(building) = state else {
-        return CLOSED;
-    };
-    if out.len() < PACKET_ROOM {
-        return ROOM;
+    match state {
+        State::Building(building) => next_on(building, out, written),
+        _ => CLOSED,
     }
-    write_next(building, out, written)
 }
 
-// Writes the packet of the next frame where there is room.
-fn write_next(building: &mut Building, out: &mut [u8], written: &mut usize) -> u32
-    requires room { 524 ≤ length out.old }
-    requires none { written.old ≡ 0 }
+fn next_on(building: &mut Building, out: &mut [u8], written: &mut usize) -> u32
     ensures next { (list : Listing) (placed : Placement) (frame : ℕ)
         → IsBuilding list placed frame building.old
-        → NextAnswer list placed frame building.old out.old out.new result written.new
-        (Some (held.Building building.new)) }
+        → NextAnswer list placed frame (packet_of list placed frame)
+        building.old out.old out.new result written.new (Some (held.Building building.new)) }
     ensures over { frames_to_come building.old ≡ 0
         → OverAnswer building.old out.old out.new result written.new
         (Some (held.Building building.new)) }
 {
-    let mut words = ArrayVec::new();
-    let more = building.next(&mut words);
-    if !more {
-        return END;
-    }
-    let count = words.len();
-    out[..count].copy_from_slice(&words);
-    *written = count;
-    0
+    tell_next(building.next(out), written)
 }
 
-/// Closes a builder, and frees what it holds; a closed one stays closed.
+/// Closes a builder, and frees what it holds; a closed one, and one of another kind, stays as it is.
 #[unsafe(no_mangle)]
 pub extern "C" fn ccsuite_builder_close(alloc: Global, builder: &mut Handle)
-    ensures { state_in builder.new ≡ None }
+    ensures closed { (b : BuildingOf) → state_in builder.old ≡ Some (held.Building b)
+        → state_in builder.new ≡ None }
+    ensures other { HasNoBuilder (state_in builder.old)
+        → state_in builder.new ≡ state_in builder.old }
 {
-    let _ = builder.take(alloc);
+    if let Some(state) = builder.take(alloc) {
+        if state.building().is_none() {
+            *builder = Handle::of(state);
+        }
+    }
 }

@@ -19,7 +19,6 @@ use crate::handle::Handle;
 use crate::state::State;
 use crate::told::{ARGUMENT, CLOSED, FedBytes, MEMORY, NONE, NOTHING, ROOM, tell, tell_end};
 use caption_streams::{Receiving, Reception};
-use cc_base::{MemorySink, Put};
 use std::alloc::{AllocError, Global};
 
 /// The last whole frame.
@@ -201,8 +200,9 @@ pub extern "C" fn ccsuite_receiver_frame(
     ensures frame { (r : ReceivingOf) (frames : List Frame)
         → state_in receiver.old ≡ Some (held.Receiving r)
         → StandsBehind frames (reception_of r)
-        → FrameAnswer (reception_of r) frames result seen.new }
-    ensures closed { HasNoReceiver (state_in receiver.old) → result ≡ closed_code }
+        → FrameAnswer (reception_of r) frames result seen.old seen.new }
+    ensures closed { HasNoReceiver (state_in receiver.old)
+        → (result ≡ closed_code) × (seen.new ≡ seen.old) }
     ensures kept { state_in receiver.new ≡ state_in receiver.old }
 {
     match receiver.take(alloc) {
@@ -218,8 +218,8 @@ pub extern "C" fn ccsuite_receiver_frame(
 fn frame(state: &State, seen: &mut FrameSeen) -> u32
     ensures frame { (r : ReceivingOf) (frames : List Frame) → state.now ≡ held.Receiving r
         → StandsBehind frames (reception_of r)
-        → FrameAnswer (reception_of r) frames result seen.new }
-    ensures closed { IsNoReceiver state.now → result ≡ closed_code }
+        → FrameAnswer (reception_of r) frames result seen.old seen.new }
+    ensures closed { IsNoReceiver state.now → (result ≡ closed_code) × (seen.new ≡ seen.old) }
 {
     match state.receiving() {
         Some(receiving) => tell_frame(receiving.reception(), seen),
@@ -229,7 +229,7 @@ fn frame(state: &State, seen: &mut FrameSeen) -> u32
 
 fn tell_frame(reception: &Reception, seen: &mut FrameSeen) -> u32
     ensures { (frames : List Frame) → StandsBehind frames reception.now
-        → FrameAnswer reception.now frames result seen.new }
+        → FrameAnswer reception.now frames result seen.old seen.new }
 {
     let frames = reception.frames();
     if frames == 0 {
@@ -257,8 +257,9 @@ pub extern "C" fn ccsuite_receiver_cell(
     ensures cell { (r : ReceivingOf) (frames : List Frame)
         → state_in receiver.old ≡ Some (held.Receiving r)
         → StandsBehind frames (reception_of r)
-        → CellAnswer (reception_of r) frames channel row column result seen.new }
-    ensures closed { HasNoReceiver (state_in receiver.old) → result ≡ closed_code }
+        → CellAnswer (reception_of r) frames channel row column result seen.old seen.new }
+    ensures closed { HasNoReceiver (state_in receiver.old)
+        → (result ≡ closed_code) × (seen.new ≡ seen.old) }
     ensures kept { state_in receiver.new ≡ state_in receiver.old }
 {
     match receiver.take(alloc) {
@@ -274,8 +275,8 @@ pub extern "C" fn ccsuite_receiver_cell(
 fn cell(state: &State, channel: u32, row: u32, column: u32, seen: &mut TextCell) -> u32
     ensures cell { (r : ReceivingOf) (frames : List Frame) → state.now ≡ held.Receiving r
         → StandsBehind frames (reception_of r)
-        → CellAnswer (reception_of r) frames channel row column result seen.new }
-    ensures closed { IsNoReceiver state.now → result ≡ closed_code }
+        → CellAnswer (reception_of r) frames channel row column result seen.old seen.new }
+    ensures closed { IsNoReceiver state.now → (result ≡ closed_code) × (seen.new ≡ seen.old) }
 {
     match state.receiving() {
         Some(receiving) => tell_cell(receiving.reception(), channel, row, column, seen),
@@ -285,7 +286,7 @@ fn cell(state: &State, channel: u32, row: u32, column: u32, seen: &mut TextCell)
 
 fn tell_cell(reception: &Reception, channel: u32, row: u32, column: u32, seen: &mut TextCell) -> u32
     ensures { (frames : List Frame) → StandsBehind frames reception.now
-        → CellAnswer reception.now frames channel row column result seen.new }
+        → CellAnswer reception.now frames channel row column result seen.old seen.new }
 {
     let Some(chan) = chan_of(channel) else {
         return ARGUMENT;
@@ -312,11 +313,12 @@ pub extern "C" fn ccsuite_receiver_window(
         → StandsBehind frames (reception_of r)
         → HasWindowPlace service id
         → WindowAnswer ((service_behind
-        (reception_of r) frames service).screen.windows id) result seen.new }
+        (reception_of r) frames service).screen.windows id) result seen.old seen.new }
     ensures argument { (HasWindowPlace service id → ⊥) → (r : ReceivingOf)
         → state_in receiver.old ≡ Some (held.Receiving r)
-        → result ≡ argument_code }
-    ensures closed { HasNoReceiver (state_in receiver.old) → result ≡ closed_code }
+        → (result ≡ argument_code) × (seen.new ≡ seen.old) }
+    ensures closed { HasNoReceiver (state_in receiver.old)
+        → (result ≡ closed_code) × (seen.new ≡ seen.old) }
     ensures kept { state_in receiver.new ≡ state_in receiver.old }
 {
     match receiver.take(alloc) {
@@ -334,11 +336,11 @@ fn window(state: &State, service: u32, id: u32, seen: &mut WindowSeen) -> u32
         → StandsBehind frames (reception_of r)
         → HasWindowPlace service id
         → WindowAnswer ((service_behind
-        (reception_of r) frames service).screen.windows id) result seen.new }
+        (reception_of r) frames service).screen.windows id) result seen.old seen.new }
     ensures argument { (HasWindowPlace service id → ⊥) → (r : ReceivingOf)
         → state.now ≡ held.Receiving r
-        → result ≡ argument_code }
-    ensures closed { IsNoReceiver state.now → result ≡ closed_code }
+        → (result ≡ argument_code) × (seen.new ≡ seen.old) }
+    ensures closed { IsNoReceiver state.now → (result ≡ closed_code) × (seen.new ≡ seen.old) }
 {
     match state.receiving() {
         Some(receiving) => tell_window(receiving.reception(), service, id, seen),
@@ -350,8 +352,9 @@ fn tell_window(reception: &Reception, service: u32, id: u32, seen: &mut WindowSe
     ensures window { (frames : List Frame) → StandsBehind frames reception.now
         → HasWindowPlace service id
         → WindowAnswer
-        ((service_behind reception.now frames service).screen.windows id) result seen.new }
-    ensures argument { (HasWindowPlace service id → ⊥) → result ≡ argument_code }
+        ((service_behind reception.now frames service).screen.windows id) result seen.old seen.new }
+    ensures argument { (HasWindowPlace service id → ⊥)
+        → (result ≡ argument_code) × (seen.new ≡ seen.old) }
 {
     if service < 1 || service > 63 || id > 7 {
         return ARGUMENT;
@@ -382,11 +385,12 @@ pub extern "C" fn ccsuite_receiver_window_cell(
         → StandsBehind frames (reception_of r)
         → HasCellPlace service id row column
         → WindowCellAnswer ((service_behind
-        (reception_of r) frames service).screen.windows id) row column result seen.new }
+        (reception_of r) frames service).screen.windows id) row column result seen.old seen.new }
     ensures argument { (HasCellPlace service id row column → ⊥) → (r : ReceivingOf)
         → state_in receiver.old ≡ Some (held.Receiving r)
-        → result ≡ argument_code }
-    ensures closed { HasNoReceiver (state_in receiver.old) → result ≡ closed_code }
+        → (result ≡ argument_code) × (seen.new ≡ seen.old) }
+    ensures closed { HasNoReceiver (state_in receiver.old)
+        → (result ≡ closed_code) × (seen.new ≡ seen.old) }
     ensures kept { state_in receiver.new ≡ state_in receiver.old }
 {
     match receiver.take(alloc) {
@@ -411,11 +415,11 @@ fn window_cell_of(
         → StandsBehind frames (reception_of r)
         → HasCellPlace service id row column
         → WindowCellAnswer ((service_behind
-        (reception_of r) frames service).screen.windows id) row column result seen.new }
+        (reception_of r) frames service).screen.windows id) row column result seen.old seen.new }
     ensures argument { (HasCellPlace service id row column → ⊥) → (r : ReceivingOf)
         → state.now ≡ held.Receiving r
-        → result ≡ argument_code }
-    ensures closed { IsNoReceiver state.now → result ≡ closed_code }
+        → (result ≡ argument_code) × (seen.new ≡ seen.old) }
+    ensures closed { IsNoReceiver state.now → (result ≡ closed_code) × (seen.new ≡ seen.old) }
 {
     match state.receiving() {
         Some(receiving) => {
@@ -436,8 +440,9 @@ fn tell_window_cell(
     ensures cell { (frames : List Frame) → StandsBehind frames reception.now
         → HasCellPlace service id row column
         → WindowCellAnswer
-        ((service_behind reception.now frames service).screen.windows id) row column result seen.new }
-    ensures argument { (HasCellPlace service id row column → ⊥) → result ≡ argument_code }
+        ((service_behind reception.now frames service).screen.windows id) row column result seen.old seen.new }
+    ensures argument { (HasCellPlace service id row column → ⊥)
+        → (result ≡ argument_code) × (seen.new ≡ seen.old) }
 {
     if service < 1 || service > 63 || id > 7 || row > 15 || column > 63 {
         return ARGUMENT;
@@ -509,13 +514,10 @@ fn write_changes(
         (Some (held.Receiving receiving.new)) }
     ensures reception { reception_of receiving.new ≡ reception_of receiving.old }
 {
-    let Ok(mut sink) = MemorySink::new(alloc, out.len(), Vec::new(alloc)) else {
+    let Ok(front) = receiving.front_of_changes(alloc, out.len() + 1) else {
         return MEMORY;
     };
-    match receiving.put_changes(&mut sink) {
-        Put::Failed => ROOM,
-        Put::Done => hand_out(sink.bytes(), out, written),
-    }
+    hand_out(&front, out, written)
 }
 
 // Writes a text to the front of `out`, and the number of its bytes; nothing where there is too little room.
@@ -579,19 +581,23 @@ fn write_screens(alloc: Global, receiving: &Receiving, out: &mut [u8], written: 
     ensures { (frames : List Frame) → StandsBehind frames (reception_of receiving.now)
         → ScreensAnswer (reception_of receiving.now) frames out.old out.new result written.new }
 {
-    let Ok(mut sink) = MemorySink::new(alloc, out.len(), Vec::new(alloc)) else {
+    let Ok(front) = receiving.front_of_screens(alloc, out.len() + 1) else {
         return MEMORY;
     };
-    match receiving.put_screens(&mut sink) {
-        Put::Failed => ROOM,
-        Put::Done => hand_out(sink.bytes(), out, written),
-    }
+    hand_out(&front, out, written)
 }
 
-/// Closes a receiver, and frees what it holds; a closed one stays closed.
+/// Closes a receiver, and frees what it holds; a closed one, and one of another kind, stays as it is.
 #[unsafe(no_mangle)]
 pub extern "C" fn ccsuite_receiver_close(alloc: Global, receiver: &mut Handle)
-    ensures { state_in receiver.new ≡ None }
+    ensures closed { (r : ReceivingOf) → state_in receiver.old ≡ Some (held.Receiving r)
+        → state_in receiver.new ≡ None }
+    ensures other { HasNoReceiver (state_in receiver.old)
+        → state_in receiver.new ≡ state_in receiver.old }
 {
-    let _ = receiver.take(alloc);
+    if let Some(state) = receiver.take(alloc) {
+        if state.receiving().is_none() {
+            *receiver = Handle::of(state);
+        }
+    }
 }

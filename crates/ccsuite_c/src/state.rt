@@ -14,8 +14,19 @@ pub enum State {
 }
 
 impl State {
-    ghost use Rattle.ccsuite_c.specs.States.{IsNoReceiver, IsNoVerifier};
+    ghost use Rattle.ccsuite_c.specs.States.{IsNoBuilder, IsNoReceiver, IsNoVerifier};
     ghost use Rattle.ccsuite_c.specs.declared.state.State.TheVariants as held;
+
+    /// The builder, if it is one.
+    pub(crate) fn building(&self) -> Option<&Building>
+        ensures { MatchOption result (IsNoBuilder self.now)
+            (λ b. self.now ≡ held.Building b.now) }
+    {
+        match self {
+            State::Building(building) => Some(building),
+            _ => None,
+        }
+    }
 
     /// The receiver, if it is one.
     pub(crate) fn receiving(&self) -> Option<&Receiving>

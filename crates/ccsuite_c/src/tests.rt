@@ -65,6 +65,16 @@ fn lists_are_run(rt: HostRuntime) {
 }
 
 #[test]
+fn a_list_of_a_byte_too_many_is_told(rt: HostRuntime) {
+    let alloc = rt.alloc();
+    let mut report = unwritten();
+    let mut out = [0; 159];
+    assert!(rt; ccsuite_build(alloc, LIST, &mut out, &mut report) == 3);
+    assert!(rt; report.written == 159 && report.wanted == 160);
+    assert!(rt; report.text.starts_with(b"too little room\n"));
+}
+
+#[test]
 fn scc_files_are_run(rt: HostRuntime) {
     let alloc = rt.alloc();
     let mut report = unwritten();
@@ -149,10 +159,12 @@ fn a_builder_gives_its_frames(rt: HostRuntime) {
     let mut out = [0xAA; 524];
     let mut written = 9;
     assert!(rt; ccsuite_builder_open(alloc, LIST, &mut builder, &mut report) == 0);
-    assert!(rt; ccsuite_builder_next(alloc, &mut builder, &mut out[..523], &mut written) == 3);
+    assert!(rt; ccsuite_builder_next(alloc, &mut builder, &mut out[..159], &mut written) == 3);
+    assert!(rt; written == 160 && out[0] == 0xAA);
     assert!(rt; ccsuite_builder_next(alloc, &mut builder, &mut out, &mut written) == 0);
     assert!(rt; written == 160 && out[160] == 0xAA);
-    assert!(rt; ccsuite_builder_next(alloc, &mut builder, &mut out, &mut written) == 33);
+    assert!(rt; ccsuite_builder_next(alloc, &mut builder, &mut [], &mut written) == 33);
+    assert!(rt; written == 0);
 }
 
 #[test]
@@ -316,6 +328,9 @@ fn a_verifier_finds_and_tells(rt: HostRuntime) {
     assert!(rt; ccsuite_verifier_verdict(alloc, &mut verifier, &mut report) == 9);
     assert!(rt; report.why == 44 && report.frame == 0 && report.expected == 5 && report.seen == 4);
     assert!(rt; ccsuite_receiver_finish(alloc, &mut verifier, &mut fed) == 32);
+    ccsuite_builder_close(alloc, &mut verifier);
+    ccsuite_receiver_close(alloc, &mut verifier);
+    assert!(rt; ccsuite_verifier_verdict(alloc, &mut verifier, &mut report) == 9);
     ccsuite_verifier_close(alloc, &mut verifier);
     assert!(rt; ccsuite_verifier_verdict(alloc, &mut verifier, &mut report) == 32);
 }

@@ -1,9 +1,9 @@
 ghost use Rattle.std.specs.Prelude.{◌≡◌};
 ghost use Rattle.cc_base.specs.Why.{reason_number};
 ghost use Rattle.ccsuite_c.specs.Codes.{refused_code};
-ghost use Rattle.ccsuite_c.specs.Told.{TellsEnd, TellsFed, ended_number, refused_so};
+ghost use Rattle.ccsuite_c.specs.Told.{TellsEnd, TellsFed, TellsNext, ended_number, refused_so};
 
-use caption_streams::FeedFault;
+use caption_streams::{FeedFault, NextFrame};
 use cc_base::Refusal;
 use cc_receiver::{Ended, Fed};
 
@@ -82,6 +82,25 @@ pub(crate) fn tell_end(answer: Result<(), Refusal>, fed: &mut FedBytes) -> u32
     match answer {
         Ok(()) => 0,
         Err(refusal) => tell_refusal(refusal, fed),
+    }
+}
+
+/// Tells what came of asking for the next frame: 0, and how many bytes of it are written; 3, and how many are wanted; 33, where there is
+/// no further one.
+pub(crate) fn tell_next(answer: NextFrame, count: &mut usize) -> u32
+    ensures { TellsNext answer result count.new }
+{
+    *count = 0;
+    match answer {
+        NextFrame::Given(bytes) => {
+            *count = bytes;
+            0
+        }
+        NextFrame::NoRoom(bytes) => {
+            *count = bytes;
+            ROOM
+        }
+        NextFrame::Over => END,
     }
 }
 

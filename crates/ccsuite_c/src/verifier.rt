@@ -161,10 +161,17 @@ fn verdict(state: &State, report: &mut Report) -> u32
     }
 }
 
-/// Closes a verifier, and frees what it holds; a closed one stays closed.
+/// Closes a verifier, and frees what it holds; a closed one, and one of another kind, stays as it is.
 #[unsafe(no_mangle)]
 pub extern "C" fn ccsuite_verifier_close(alloc: Global, verifier: &mut Handle)
-    ensures { state_in verifier.new ≡ None }
+    ensures closed { (v : VerifyingOf) → state_in verifier.old ≡ Some (held.Verifying v)
+        → state_in verifier.new ≡ None }
+    ensures other { HasNoVerifier (state_in verifier.old)
+        → state_in verifier.new ≡ state_in verifier.old }
 {
-    let _ = verifier.take(alloc);
+    if let Some(state) = verifier.take(alloc) {
+        if state.verifying().is_none() {
+            *verifier = Handle::of(state);
+        }
+    }
 }

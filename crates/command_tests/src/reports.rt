@@ -22,6 +22,7 @@ const NOTHING: Report = Report {
     seen: 0,
     place: 0,
     written: 0,
+    wanted: 0,
     text: [0; TEXT],
 };
 
@@ -36,7 +37,7 @@ const STATUSES: &[(Status, [u32; 5], &str)] = &[
     (Status::Ok, [0, 0, 0, 0, 0], ""),
     (Status::Usage, [1, 0, 0, 0, 0], "argument out of range\n"),
     (Status::ReadFault, [2, 0, 0, 0, 0], "read fault\n"),
-    (Status::WriteFault, [3, 0, 0, 0, 0], "write fault\n"),
+    (Status::WriteFault, [3, 0, 0, 0, 0], "too little room\n"),
     (Status::Memory, [4, 0, 0, 0, 0], "out of memory\n"),
     (
         Status::Limit(LimitOf::Bytes),
@@ -293,13 +294,17 @@ fn a_run_fills_the_front_of_its_output(rt: HostRuntime) {
     assert!(rt; report == wrote(18));
     assert!(rt; out == *b"ccsuite,2,29.97,1\n\xAA\xAA");
     let report = run_in_memory(alloc, Command::Build, LIST, &[], &mut out);
-    let failed = Report {
+    let filled = Report {
         status: 3,
-        text: text_of("write fault\n"),
+        written: 20,
+        wanted: 160,
+        text: text_of("too little room\n"),
         ..NOTHING
     };
-    assert!(rt; report == failed);
-    assert!(rt; out == *b"ccsuite,2,29.97,1\n\xAA\xAA");
+    assert!(rt; report == filled);
+    assert!(rt;
+        out == *b"\0\0\x03\xFF\x03\xFF\x01\x61\x01\x01\x01\x49\x02\x96\x02\x69\x01\x49\x01\x4F"
+    );
 }
 
 #[test]

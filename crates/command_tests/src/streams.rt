@@ -1,5 +1,4 @@
-use arrayvec::ArrayVec;
-use caption_streams::{Building, FeedFault, Receiving, SliceSource, Verifying};
+use caption_streams::{Building, FeedFault, NextFrame, Receiving, SliceSource, Verifying};
 use cc_base::{MemorySink, Put, Refusal, Source, Took, Why};
 use cc_receiver::{Ended, Fed};
 use command_base::{Place, Status};
@@ -41,8 +40,8 @@ fn what_changed_is_told_once(rt: HostRuntime) -> Result<(), Fail> {
     let mut building = built(alloc, LIST)?;
     let mut receiving = Receiving::new(alloc)?;
     for frame in 0..8 {
-        let mut words = ArrayVec::new();
-        assert!(rt; building.next(&mut words));
+        let mut words = [0; 160];
+        assert!(rt; building.next(&mut words) == NextFrame::Given(160));
         assert!(rt; receiving.feed(&words) == Ok(FRAME));
     }
     let mut sink = MemorySink::new(alloc, 100, Vec::new(alloc))?;
@@ -75,8 +74,8 @@ fn words_are_verified_up_to_the_first_finding(rt: HostRuntime) -> Result<(), Fai
     };
     for frame in 0..30 {
         assert!(rt; right.verdict() == Status::Short(frame));
-        let mut words = ArrayVec::new();
-        assert!(rt; building.next(&mut words));
+        let mut words = [0; 160];
+        assert!(rt; building.next(&mut words) == NextFrame::Given(160));
         assert!(rt; right.feed(&words) == Ok(FRAME));
         let answer = if frame < 8 {
             Ok(FRAME)
@@ -85,7 +84,7 @@ fn words_are_verified_up_to_the_first_finding(rt: HostRuntime) -> Result<(), Fai
         };
         assert!(rt; wrong.feed(&words) == answer);
     }
-    assert!(rt; !building.next(&mut ArrayVec::new()));
+    assert!(rt; building.next(&mut []) == NextFrame::Over);
     assert!(rt;
         right.verdict() == Status::Ok
             && right.finding().is_none()
@@ -96,15 +95,29 @@ fn words_are_verified_up_to_the_first_finding(rt: HostRuntime) -> Result<(), Fai
 }
 
 #[test]
+fn a_frame_without_room_is_the_next_one_still(rt: HostRuntime) -> Result<(), Fail> {
+    let alloc = rt.alloc();
+    let mut building = built(alloc, LIST)?;
+    let mut short = [0; 159];
+    assert!(rt; building.next(&mut short) == NextFrame::NoRoom(160));
+    assert!(rt; short == [0; 159]);
+    let mut words = [0; 160];
+    assert!(rt; building.next(&mut words) == NextFrame::Given(160));
+    assert!(rt; words.starts_with(b"\0\0\x03\xFF\x03\xFF"));
+    Ok(())
+}
+
+#[test]
 fn a_frame_that_is_missing_is_counted(rt: HostRuntime) -> Result<(), Fail> {
     let alloc = rt.alloc();
     let mut building = built(alloc, LIST)?;
+    let mut first = [0; 160];
+    assert!(rt; building.next(&mut first) == NextFrame::Given(160));
+    let mut second = [0; 160];
+    assert!(rt; building.next(&mut second) == NextFrame::Given(160));
+    let mut third = [0; 160];
+    assert!(rt; building.next(&mut third) == NextFrame::Given(160));
     let mut receiving = Receiving::concealing(alloc)?;
-    let mut first = ArrayVec::new();
-    assert!(rt; building.next(&mut first));
-    assert!(rt; building.next(&mut ArrayVec::new()));
-    let mut third = ArrayVec::new();
-    assert!(rt; building.next(&mut third));
     assert!(rt; receiving.feed(&first) == Ok(FRAME));
     assert!(rt; receiving.feed(&third) == Ok(FRAME));
     let reception = receiving.reception();

@@ -18,19 +18,19 @@ front line kept faults put.Failed (n, within, puts) (rises, rose) full few =
     let long : n ≡ 159 = sym (length-take-le n line within) ∙ ap length (sym puts) ∙ full some in
     ap (λ (m : ℕ). take m line) (sym long) ∙ sym puts
 
--- but for an argument out of range the line is the program's
-pub other_line : (answer : Status) → (answer ≡ status.Usage → ⊥) → line_of answer ≡ status_line answer
-other_line status.Usage not = absurd (not refl)
-other_line status.Ok not = refl
-other_line status.ReadFault not = refl
-other_line status.WriteFault not = refl
-other_line status.Memory not = refl
-other_line (status.Limit it) not = refl
-other_line (status.Malformed it why) not = refl
-other_line (status.Rule it) not = refl
-other_line (status.NoRoom it) not = refl
-other_line (status.Differs it) not = refl
-other_line (status.Short it) not = refl
-other_line (status.NoRoomBeside it) not = refl
-other_line (status.NoXdsRoom it) not = refl
-other_line (status.Misfit it) not = refl
+-- but for an argument out of range, and for too little room, the line is the program's
+pub other_line : (answer : Status) → (answer ≡ status.Usage → ⊥) → (answer ≡ status.WriteFault → ⊥) → line_of answer ≡ status_line answer
+other_line status.Usage not_usage not_room = absurd (not_usage refl)
+other_line status.WriteFault not_usage not_room = absurd (not_room refl)
+other_line status.Ok not_usage not_room = refl
+other_line status.ReadFault not_usage not_room = refl
+other_line status.Memory not_usage not_room = refl
+other_line (status.Limit it) not_usage not_room = refl
+other_line (status.Malformed it why) not_usage not_room = refl
+other_line (status.Rule it) not_usage not_room = refl
+other_line (status.NoRoom it) not_usage not_room = refl
+other_line (status.Differs it) not_usage not_room = refl
+other_line (status.Short it) not_usage not_room = refl
+other_line (status.NoRoomBeside it) not_usage not_room = refl
+other_line (status.NoXdsRoom it) not_usage not_room = refl
+other_line (status.Misfit it) not_usage not_room = refl

@@ -16,7 +16,7 @@ pub ran : (command : Command) {input side before after written now source file b
     (ends (Some source) 0 (Some begun) begun_faults) (ends (Some left) 0 (Some written) faults) status
     → Stands status now before after report → RunsInMemory command input side before after report
 ran command left side_left faults e f g h put answer (inr lacks) = inr lacks
-ran command {now = now} left side_left faults {status} e f g h put answer (inl so) = inl (record {
+ran command {now = now} left side_left faults {status} e f g h put answer (inl (takes_all, so)) = inl (record {
   status = status;
   written = now;
   left = left;
@@ -24,7 +24,6 @@ ran command {now = now} left side_left faults {status} e f g h put answer (inl s
   faults = faults;
   answer = subst (λ (at : SideEnds × Ends × Ends). Answer (Some command) at.0 (side_ends (Some side_left) 0) at.1 at.2 status)
       (λ i. (side_ends (Some (f i)) 0, ends (Some (e i)) 0 (Some (g i)) (h i), ends (Some left) 0 (Some (sym put i)) faults)) answer;
-  fits = so.fits;
-  stands = so.stands;
-  told = so.told;
+  takes_all = takes_all;
+  stands = so;
 })

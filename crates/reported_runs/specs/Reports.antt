@@ -38,9 +38,10 @@ chan_number chan.Cc2 = 2
 chan_number chan.Cc3 = 3
 chan_number chan.Cc4 = 4
 
--- the line of a status, as the program writes it; of an argument that is out of range, a line of its own
+-- the line of a status, as the program writes it; of an argument that is out of range, and of too little room, a line of its own
 abbrev pub line_of : Status → List ℕ
 line_of status.Usage = codes "argument out of range\n"
+line_of status.WriteFault = codes "too little room\n"
 line_of answer = status_line answer
 
 -- the front of a line that has room, and zeros behind it
@@ -70,6 +71,7 @@ blank answer count =
       seen = 0;
       place = 0;
       written = count;
+      wanted = 0;
       text = text_of answer;
     }
 
@@ -127,3 +129,7 @@ report_of (status.NoRoomBeside number) count = record (blank (status.NoRoomBesid
 report_of (status.NoXdsRoom number) count = record (blank (status.NoXdsRoom number) count) { packet = number }
 report_of (status.Misfit found) count = with_misfit found (blank (status.Misfit found) count)
 report_of answer count = blank answer count
+
+-- the report of a run that wrote more bytes than there is room for, with which the output is full
+abbrev pub report_of_room : ℕ → ℕ → Report
+report_of_room bytes count = record (report_of status.WriteFault count) { wanted = bytes }

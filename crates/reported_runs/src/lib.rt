@@ -8,5 +8,6 @@ pub use crate::run::run_in_memory;
 pub use ccsuite_cli::{Command, MOST_LOAD};
 
 mod line;
+mod output;
 mod report;
 mod run;

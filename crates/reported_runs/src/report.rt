@@ -1,6 +1,6 @@
 ghost use Rattle.std.specs.Prelude.{◌≡◌};
 ghost use Rattle.cc_base.specs.Rate.{rate_code};
-ghost use Rattle.reported_runs.specs.Reports.{blank, chan_number, limit_number, report_of, with_finding, with_kind, with_misfit, with_place, with_seen, with_which};
+ghost use Rattle.reported_runs.specs.Reports.{blank, chan_number, limit_number, report_of, report_of_room, with_finding, with_kind, with_misfit, with_place, with_seen, with_which};
 
 use crate::line::text_of;
 use cc_base::{LimitOf, Rate, Why};
@@ -47,6 +47,8 @@ pub struct Report {
     pub place: u64,
     /// The number of bytes that stand in the output.
     pub written: u64,
+    /// How many bytes the whole output has, where it has more than there is room for.
+    pub wanted: u64,
     /// The line of the status, and behind it zeros: what the program writes to its error output.
     pub text: [u8; TEXT],
 }
@@ -75,6 +77,15 @@ pub fn report_of(status: Status, written: u64) -> Report
     report
 }
 
+/// The report of a run that wrote so many bytes, of which so many had room, and fill the output.
+pub fn report_of_room(wanted: u64, written: u64) -> Report
+    ensures { result ≡ report_of_room wanted written }
+{
+    let mut report = report_of(Status::WriteFault, written);
+    report.wanted = wanted;
+    report
+}
+
 // A status's code and line, and no number that it carries.
 fn blank(status: Status, written: u64) -> Report
     ensures { result ≡ blank status written }
@@ -96,6 +107,7 @@ fn blank(status: Status, written: u64) -> Report
         seen: 0,
         place: 0,
         written,
+        wanted: 0,
         text: text_of(status),
     }
 }

@@ -8,5 +8,5 @@ use Rattle.ccsuite_c.proofs.receiver.cell.Goals as goal
 pub returns-in-Some-clause-cell : goal.returns-in-Some-clause-cell
 returns-in-Some-clause-cell c = λ r frames is stands.
     let same : c.reception.result.now ≡ reception_of r = cc (c.reception.ensures, c.in-Some.ensures) in
-    subst (λ (it : Reception). CellAnswer it frames c.args.channel c.args.row c.args.column c.tell_cell.result c.tell_cell.new.seen) same
+    subst (λ (it : Reception). CellAnswer it frames c.args.channel c.args.row c.args.column c.tell_cell.result c.args.seen.now c.tell_cell.new.seen) same
     (c.tell_cell.ensures frames (subst (λ (it : Reception). StandsBehind frames it) (sym same) stands))

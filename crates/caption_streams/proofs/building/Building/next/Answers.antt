@@ -1,7 +1,9 @@
-use Rattle.caption_streams.proofs.BuilderLemmas.{stepped}
+use Rattle.std.proofs.Common.{ℕ, List, subst, sym}
+use Rattle.caption_streams.specs.Builders.{HasCarried, packet_of}
 use Rattle.caption_streams.proofs.building.Building.next.Goals as goal
 
 pub returns-in-Some-clause-next : goal.returns-in-Some-clause-next
 returns-in-Some-clause-next c list placed frame is =
-    stepped list placed frame c.args.self.now c.next.new.self c.put_words.new.self c.in-Some.frame c.put_words.new.out.items
-    is c.in-Some.ensures.left c.in-Some.ensures.gives c.put_words.ensures.bytes c.put_words.ensures.next
+    let packet = packet_of list placed frame in
+    c.give.ensures list placed frame packet is
+    (subst (λ (bytes : List ℕ). HasCarried list placed frame packet c.args.self.now bytes c.in-Some.carrier) (sym c.deref.ensures.0) (c.in-Some.ensures.next list placed frame is))
