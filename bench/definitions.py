@@ -35,7 +35,7 @@ KINDS = {
     "own forms": "cue_form xds_lists grid_print cue_types.Cues cue_types.Windows cue_types.Shares cue_list_commands.Lines"
     " words_commands.Screens words_commands.PacketLines words_commands.ConcealedScreens",
     "glue": "command_base frame_carrier.Framing cue_list_commands words_reading words_commands verify_commands insert_commands dual_commands"
-    " xds_commands scc_commands mcc_commands convert_commands load_commands.LoadAnswer load_commands.LoadOutput ccsuite_cli reported_runs"
+    " xds_commands scc_commands mcc_commands convert_commands load_commands.LoadVerdict load_commands.LoadOutput ccsuite_cli reported_runs"
     " caption_streams ccsuite_c",
 }
 WIDE = 100

@@ -1,6 +1,6 @@
 pub use Rattle.cc_verifier.specs.Verifiers
 pub use Rattle.cue_list_commands.specs.Accepted
-pub use Rattle.cue_list_commands.specs.SideEnds
+pub use Rattle.command_base.specs.SideEnds
 pub use Rattle.frame_scheduler.specs.Planned
 pub use Rattle.grid_print.specs.GridTexts
 pub use Rattle.grid_print.specs.Screens

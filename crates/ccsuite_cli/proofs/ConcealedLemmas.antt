@@ -1,10 +1,11 @@
 -- What `conceal` answers the words of frames that came, and what it puts.
-use Rattle.std.proofs.Common.{◌≡◌, ◌∙◌, ◌++◌, ◌∷◌, ◌+◌, ◌*◌, ◌<◌, ◌≤◌, ◌⊎◌, ap, arith, inl, inr, length, length-append, subst, sym, ℕ, List, [], Some}
-use Rattle.std.specs.Prelude.{IfSome}
-use Rattle.std.specs.Io.KnownBytes.{Appends}
+use Rattle.std.proofs.Common.{◌≡◌, ◌∙◌, ◌++◌, ◌∷◌, ◌+◌, ◌*◌, ◌<◌, ◌≤◌, ◌⊎◌, ap, arith, inl, inr, length, length-append, refl, subst, ℕ, List, [], Some}
+use Rattle.std.specs.Io.KnownBytes.{Appends, Keeps}
 use Rattle.std.specs.List.{AllByRecursion}
 use Rattle.cdp_packets.specs.Packets.{Frame}
+use Rattle.command_base.specs.Counts.{IsSideOf}
 use Rattle.command_base.specs.Ends.{Ends}
+use Rattle.command_base.specs.Realises.{PutsSaid, no_side}
 use Rattle.command_base.specs.declared.status.Status.TheVariants as status
 use Rattle.cue_lists.specs.Listing.{IsFormed, Listing}
 use Rattle.cue_lists.specs.declared.lane.Lane.TheVariants.{Service}
@@ -14,14 +15,13 @@ use Rattle.frame_carrier.specs.Carrying.{channel_packet_of, frame_bytes}
 use Rattle.frame_carrier.specs.Planned.{Placement, columns_of}
 use Rattle.services_files.specs.CaptionChannel.{caption_channel}
 use Rattle.words_commands.specs.ConcealedScreens.{conceal_output, concealed_changes}
-use Rattle.words_commands.specs.WordsAnswer.{ChangesAnswer}
+use Rattle.words_commands.specs.Verdicts.{ChangesVerdict}
 use Rattle.words_files.proofs.FramesOfLemmas.{file_frames, frames_of_once}
-use Rattle.words_files.specs.FramesOf.{AreFramesOf}
 use Rattle.words_files.specs.Offences.{IsFileUnder}
 use Rattle.lost.proofs.WordsLemmas.{came_words}
 use Rattle.lost.specs.Delivered.{AreDelivered, delivered_bytes, delivered_packets}
 use Rattle.ccsuite_cli.proofs.SizeLemmas.{columns_size}
-use Rattle.ccsuite_cli.proofs.VerdictLemmas.{file_put}
+use Rattle.ccsuite_cli.proofs.VerdictLemmas.{verdict_answered}
 use Rattle.ccsuite_cli.specs.SeenAgain.{DeliveredIsConcealed, IsConcealed}
 use Rattle.ccsuite_cli.specs.declared.command.Command.TheVariants.{Conceal}
 
@@ -49,16 +49,19 @@ delivered_size list placed (k ∷ came) roomy =
     let all = length-append own (delivered_bytes list placed came) in
     omega (arith, here, alone, rest, all)
 
--- a run of `conceal` that read a file to its end put what is shown of its frames
-text_put : (bytes : List ℕ) (frames : List Frame) (old new : Ends) → IsFileUnder caption_channel frames bytes → old.left ≡ Some bytes
-    → ChangesAnswer concealed_changes old new status.Ok → Appends old.written new.written (conceal_output frames)
-text_put bytes frames old new file left answered =
-    let stops = answered.1 in
-    let whole : bytes ≡ stops.judged = subst (λ l. IfSome l (λ all. all ≡ stops.judged)) left stops.cause.0.0 in
-    let same : stops.says.frames ≡ frames =
-    frames_of_once caption_channel stops.says.frames frames bytes (subst (AreFramesOf caption_channel stops.says.frames) (sym whole) stops.says.frames_are)
-    (file_frames caption_channel frames bytes file) in
-    subst (Appends old.written new.written) (stops.says.text_is ∙ ap conceal_output same) stops.output
+-- what `conceal` makes of a file with Ok is what is shown of its frames
+text_made : (bytes text : List ℕ) (frames : List Frame) → IsFileUnder caption_channel frames bytes → ChangesVerdict concealed_changes bytes status.Ok text
+    → text ≡ conceal_output frames
+text_made bytes text frames file (inl (few, (others, again, is))) =
+    is
+    ∙ ap conceal_output
+    (frames_of_once caption_channel others frames bytes (file_frames caption_channel others bytes again) (file_frames caption_channel frames bytes file))
+text_made bytes text frames file (inr (inl refused)) = absurd refused.0
+text_made bytes text frames file (inr (inr (judged, rest, spelled, few, halts))) = absurd halts
+
+-- `conceal` has no side file
+no_side_read : IsSideOf [] no_side no_side
+no_side_read = record { left = refl; faults = λ rose. let none : 1 ≤ 0 = rose in omega (arith, none) }
 
 pub delivered_answered : DeliveredIsConcealed
 delivered_answered bytes list placed came side later old new answer accepted delivered below read answered =
@@ -69,10 +72,17 @@ delivered_answered bytes list placed came side later old new answer accepted del
     let most : list.frames ≤ 1000000 = formed.frames in
     let few : length came ≤ list.frames = all_came list.frames came delivered below in
     let size = delivered_size list placed came (frames_roomy list placed formed accepted.good.ruled (λ service. accepted.placement (Service service))) in
-    by_answer file (file_put words frames Conceal side later old new answer tt file (omega (arith, most, few, size)) read answered)
+    by_answer file
+    (verdict_answered Conceal [] words status.Ok (conceal_output frames) side later old new answer (λ fault. fault)
+    (inl (omega (arith, most, few, size), (frames, file, refl))) no_side_read read answered)
   where
-    by_answer : IsFileUnder caption_channel (delivered_packets list placed came) (delivered_bytes list placed came) → (answer ≡ status.Ok) ⊎ (answer ≡ status.Memory)
+    by_answer : IsFileUnder caption_channel (delivered_packets list placed came) (delivered_bytes list placed came)
+        → ((answer ≡ status.Memory) × Keeps old.written new.written)
+        ⊎ ((answer ≡ status.Ok) × PutsSaid (λ aside. ChangesVerdict concealed_changes) [] (delivered_bytes list placed came) old new status.Ok)
         → IsConcealed (delivered_packets list placed came) old new answer
-    by_answer file (inl ok) =
-        inl (ok, text_put (delivered_bytes list placed came) (delivered_packets list placed came) old new file read.left (subst (ChangesAnswer concealed_changes old new) ok answered.1))
-    by_answer file (inr memory) = inr memory
+    by_answer file (inl memory) = inr memory.0
+    by_answer file (inr (ok, (text, says, put))) =
+        inl (
+          ok,
+          subst (Appends old.written new.written) (text_made (delivered_bytes list placed came) text (delivered_packets list placed came) file says) put,
+        )

@@ -1,87 +1,84 @@
--- The verdict of a run, command by command.
-use Rattle.std.proofs.Common.{◌≡◌, Some, None, ap}
-use Rattle.command_base.proofs.CountLemmas.{same_told}
-use Rattle.convert_commands.proofs.ConvertVerdictLemmas.{told_convert}
-use Rattle.cue_list_commands.proofs.ListAnswerLemmas.{accepted_build, accepted_cues, accepted_pairs, refused_build, refused_cues, refused_pairs, told_build, told_cues, told_pairs}
-use Rattle.scc_commands.proofs.SccVerdictLemmas.{told_export, told_import}
+-- Of every input a command makes one status, and a run answers it.
+use Rattle.std.proofs.Common.{ap, ℕ, List, [], Option, Some}
+use Rattle.command_base.proofs.ExactLemmas.{exact, told}
+use Rattle.command_base.specs.Ends.{Ends, ends}
+use Rattle.command_base.specs.Realises.{LeavesAll}
 use Rattle.command_base.specs.declared.status.Status.{Status}
-use Rattle.cue_list_commands.specs.SideEnds.{SideEnds}
-use Rattle.cue_list_commands.specs.SideLists.{TellsSideFaults}
-use Rattle.cue_list_commands.proofs.SideLemmas.{side_kept}
-use Rattle.dual_commands.proofs.VerdictLemmas.{faults_told as dual_told}
-use Rattle.insert_commands.proofs.VerdictLemmas.{insert_told}
-use Rattle.load_commands.proofs.VerdictLemmas.{load_told}
-use Rattle.verify_commands.proofs.VerdictLemmas.{verify_told}
-use Rattle.words_commands.proofs.WordsVerdictLemmas.{changes_long, changes_refused, changes_told, file_changes, show_long, show_refused, show_told}
+use Rattle.convert_commands.proofs.VerdictLemmas.{convert_one}
+use Rattle.cue_list_commands.proofs.ListVerdictLemmas.{build_one, cues_one, pairs_one}
+use Rattle.cue_list_commands.proofs.EveryLemmas.{every_build, every_cues, every_pairs}
+use Rattle.dual_commands.proofs.VerdictLemmas.{dual_one}
+use Rattle.dual_commands.proofs.EveryLemmas.{every_dual}
+use Rattle.insert_commands.proofs.VerdictLemmas.{insert_one}
+use Rattle.insert_commands.proofs.EveryLemmas.{every_insert}
+use Rattle.load_commands.proofs.VerdictLemmas.{every_load, load_one}
+use Rattle.mcc_commands.proofs.ExportVerdictLemmas.{export_mcc_one}
+use Rattle.mcc_commands.proofs.ImportVerdictLemmas.{import_mcc_one}
+use Rattle.mcc_commands.proofs.ImportEveryLemmas.{every_import_mcc}
+use Rattle.mcc_commands.proofs.ExportEveryLemmas.{every_export_mcc, starts_in_day}
+use Rattle.mcc_commands.specs.ExportMcc.{start_at}
+use Rattle.scc_commands.proofs.ExportVerdictLemmas.{every_export, export_one}
+use Rattle.scc_commands.proofs.ImportVerdictLemmas.{import_one}
+use Rattle.scc_commands.proofs.ImportEveryLemmas.{every_import}
+use Rattle.verify_commands.proofs.VerdictLemmas.{verify_one}
+use Rattle.words_commands.proofs.VerdictLemmas.{changes_one, every_changes, every_show, show_one}
 use Rattle.words_commands.specs.ConcealedScreens.{concealed_changes}
 use Rattle.words_commands.specs.PacketLines.{packet_lines}
 use Rattle.words_commands.specs.Screens.{changes_of}
-use Rattle.mcc_commands.proofs.ExportVerdictLemmas.{mcc_told}
-use Rattle.mcc_commands.specs.ExportMcc.{start_at}
-use Rattle.mcc_commands.proofs.ImportVerdictLemmas.{import_mcc_told}
-use Rattle.ccsuite_cli.specs.Verdict.{AcceptedIsAnswered, FaultsAreTold, FileIsDecoded, LongWordsAreRefused, MalformedIsRefused, RefusedListIsAnswered}
+use Rattle.xds_commands.proofs.VerdictLemmas.{xds_one}
+use Rattle.xds_commands.proofs.EveryLemmas.{every_xds}
+use Rattle.ccsuite_cli.specs.Answer.{input_for, side_for, verdict_of}
+use Rattle.ccsuite_cli.specs.Verdict.{EveryInputHasVerdict, FaultsAreTold, VerdictIsAnswered, VerdictIsOne}
 use Rattle.ccsuite_cli.specs.declared.command.Command.TheVariants.{Build, Conceal, Convert, Cues, Decode, Dual, Export, ExportMcc, Import, ImportMcc, Insert, Load, Pairs, Show, Verify, Xds, XdsShow}
-use Rattle.xds_commands.proofs.VerdictLemmas.{faults_told as xds_told}
 
--- an accepted list
-pub accepted_answered : AcceptedIsAnswered
-accepted_answered bytes list placed Pairs side later old new answer reads accepted read is = accepted_pairs bytes list placed old new answer accepted read is.1
-accepted_answered bytes list placed Build side later old new answer reads accepted read is = accepted_build bytes list placed old new answer accepted read is.1
-accepted_answered bytes list placed Cues side later old new answer reads accepted read is = accepted_cues bytes list placed old new answer accepted read is.1
-accepted_answered bytes list placed _ side later old new answer reads accepted read is = absurd reads
+pub verdict_one : VerdictIsOne
+verdict_one Pairs = pairs_one
+verdict_one Build = build_one
+verdict_one Cues = cues_one
+verdict_one Dual = dual_one
+verdict_one Xds = xds_one
+verdict_one Decode = changes_one changes_of
+verdict_one (Show frame) = show_one frame
+verdict_one Conceal = changes_one concealed_changes
+verdict_one XdsShow = changes_one packet_lines
+verdict_one Verify = verify_one
+verdict_one Insert = insert_one
+verdict_one Convert = convert_one
+verdict_one Import = import_one
+verdict_one (Export time) = export_one time
+verdict_one ImportMcc = import_mcc_one
+verdict_one (ExportMcc count time) = export_mcc_one (start_at count time)
+verdict_one (Load count) = load_one count
 
--- a refused list
-pub refused_answered : RefusedListIsAnswered
-refused_answered bytes refusal Pairs side later old new answer refuses read is = refused_pairs bytes refusal old new answer refuses read is.1
-refused_answered bytes refusal Build side later old new answer refuses read is = refused_build bytes refusal old new answer refuses read is.1
-refused_answered bytes refusal Cues side later old new answer refuses read is = refused_cues bytes refusal old new answer refuses read is.1
-refused_answered bytes refusal _ side later old new answer refuses read is = absurd refuses
+pub every_input : EveryInputHasVerdict
+every_input Pairs runs decided = every_pairs
+every_input Build runs decided = every_build
+every_input Cues runs decided = every_cues
+every_input Dual runs decided = every_dual
+every_input Xds runs decided = every_xds
+every_input Decode runs decided = every_changes changes_of
+every_input (Show frame) runs decided = every_show frame
+every_input Conceal runs decided = every_changes concealed_changes
+every_input XdsShow runs decided = every_changes packet_lines
+every_input Verify runs decided = absurd decided
+every_input Insert runs decided = every_insert
+every_input Convert runs decided = absurd decided
+every_input Import runs decided = every_import
+every_input (Export time) runs decided = every_export time
+every_input ImportMcc runs decided = every_import_mcc
+every_input (ExportMcc count time) runs decided = every_export_mcc (start_at count time) (starts_in_day count time runs)
+every_input (Load count) runs decided = every_load count runs.0 runs.1
 
--- malformed words
-pub malformed_refused : MalformedIsRefused
-malformed_refused bytes refusal Decode side later old new answer reads malformed within read is = changes_refused changes_of bytes refusal old new answer malformed within read is.1
-malformed_refused bytes refusal Conceal side later old new answer reads malformed within read is =
-    changes_refused concealed_changes bytes refusal old new answer malformed within read is.1
-malformed_refused bytes refusal XdsShow side later old new answer reads malformed within read is = changes_refused packet_lines bytes refusal old new answer malformed within read is.1
-malformed_refused bytes refusal (Show frame) side later old new answer reads malformed within read is = show_refused frame bytes refusal old new answer malformed within read is.1
-malformed_refused bytes refusal _ side later old new answer reads malformed within read is = absurd reads
+pub verdict_answered : VerdictIsAnswered
+verdict_answered command aside input verdict text side later old new answer plain says side_is read is =
+    exact (verdict_of command) (verdict_one command) aside input verdict text (side_for command side) (side_for command later) (input_for command old) (input_for command new) answer
+    plain says side_is read is
 
--- a words file
-pub file_put : FileIsDecoded
-file_put bytes frames Decode side later old new answer puts file within read is = file_changes changes_of bytes frames old new answer file within read is.1
-file_put bytes frames Conceal side later old new answer puts file within read is = file_changes concealed_changes bytes frames old new answer file within read is.1
-file_put bytes frames XdsShow side later old new answer puts file within read is = file_changes packet_lines bytes frames old new answer file within read is.1
-file_put bytes frames _ side later old new answer puts file within read is = absurd puts
-
--- words past the limit
-pub long_refused : LongWordsAreRefused
-long_refused bytes Decode side later old new answer reads past read is = changes_long changes_of bytes old new answer past read is.1
-long_refused bytes Conceal side later old new answer reads past read is = changes_long concealed_changes bytes old new answer past read is.1
-long_refused bytes XdsShow side later old new answer reads past read is = changes_long packet_lines bytes old new answer past read is.1
-long_refused bytes (Show frame) side later old new answer reads past read is = show_long frame bytes old new answer past read is.1
-long_refused bytes _ side later old new answer reads past read is = absurd reads
-
--- the side file is as it was
-side_same : (side later : SideEnds) (answer : Status) → later ≡ side → TellsSideFaults side later answer
-side_same side later answer same = side_kept side later answer (ap (λ (s : SideEnds). s.faults) same)
-
--- a count that is greater than before
 pub faults_told : FaultsAreTold
-faults_told None side later old new answer is = (side_same side later answer is.0, same_told old new answer is.1)
-faults_told (Some Pairs) side later old new answer is = (side_same side later answer is.0, told_pairs old new answer is.1)
-faults_told (Some Build) side later old new answer is = (side_same side later answer is.0, told_build old new answer is.1)
-faults_told (Some Cues) side later old new answer is = (side_same side later answer is.0, told_cues old new answer is.1)
-faults_told (Some Decode) side later old new answer is = (side_same side later answer is.0, changes_told changes_of old new answer is.1)
-faults_told (Some (Show frame)) side later old new answer is = (side_same side later answer is.0, show_told frame old new answer is.1)
-faults_told (Some Verify) side later old new answer is = verify_told side later old new answer is
-faults_told (Some Insert) side later old new answer is = insert_told side later old new answer is
-faults_told (Some Dual) side later old new answer is = dual_told side later old new answer is
-faults_told (Some Xds) side later old new answer is = xds_told side later old new answer is
-faults_told (Some Import) side later old new answer is = (side_same side later answer is.0, told_import old new answer is.1)
-faults_told (Some (Export time)) side later old new answer is = (side_same side later answer is.0, told_export time old new answer is.1)
-faults_told (Some (Load count)) side later old new answer is = (side_same side later answer is.0, load_told count old new answer is.1)
-faults_told (Some XdsShow) side later old new answer is = (side_same side later answer is.0, changes_told packet_lines old new answer is.1)
-faults_told (Some Conceal) side later old new answer is = (side_same side later answer is.0, changes_told concealed_changes old new answer is.1)
-faults_told (Some Convert) side later old new answer is = (side_same side later answer is.0, told_convert old new answer is.1)
-faults_told (Some ImportMcc) side later old new answer is = (side_same side later answer is.0, import_mcc_told old new answer is.1)
-faults_told (Some (ExportMcc count time)) side later old new answer is = (side_same side later answer is.0, mcc_told (start_at count time) old new answer is.1)
+faults_told command side later old new answer is =
+    told (verdict_of command) (side_for command side) (side_for command later) (input_for command old) (input_for command new) answer is
+
+-- what a run without an input leaves
+pub load_leaves : (left : Option (List ℕ)) (reads writes still : ℕ) (old new : Option (List ℕ)) (answer : Status)
+    → LeavesAll (ends (Some []) reads old writes) (ends (Some []) reads new still) answer → LeavesAll (ends left reads old writes) (ends left reads new still) answer
+load_leaves left reads writes still old new answer leaves memory = ap (λ (e : Ends). ends left reads e.written e.write_faults) (leaves memory)

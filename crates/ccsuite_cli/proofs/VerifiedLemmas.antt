@@ -13,7 +13,7 @@ use Rattle.cue_list_commands.proofs.RoomLemmas.{frames_roomy}
 use Rattle.cue_list_commands.proofs.ToldLemmas.{packets_count}
 use Rattle.cue_list_commands.specs.Showing.{ShowsFrames}
 use Rattle.cue_list_commands.specs.Sound.{IsSoundFrames}
-use Rattle.verify_commands.specs.VerifyVerdict.{AreVerified}
+use Rattle.verify_commands.specs.Verified.{AreVerified}
 use Rattle.words_files.specs.Received.{received_at}
 use Rattle.cue_list_commands.specs.Output.{PlacedList, list_grids, list_told, list_windows}
 use Rattle.cue_list_commands.proofs.Outputs.{sound_words}

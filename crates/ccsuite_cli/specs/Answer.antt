@@ -1,45 +1,78 @@
--- Believed: the program's answer stands on these definitions.
--- What a run answers, by cases of its command.
-use Rattle.std.specs.Prelude.{◌≡◌, Option, Some, None}
-use Rattle.command_base.specs.Ends.{Ends}
+-- Believed in part: the program's answer stands on some of these definitions.
+-- What a run answers: it realises what its command makes of bytes.
+use Rattle.std.specs.Prelude.{◌≡◌, [], if◌then◌else◌, Option, Some, None, ⊤}
+use Rattle.command_base.specs.Ends.{Ends, ends}
+use Rattle.command_base.specs.Realises.{AwaitsSide, LeavesAll, Realises, Verdict, no_side}
+use Rattle.command_base.specs.SideEnds.{SideEnds}
 use Rattle.command_base.specs.declared.status.Status.{Status}
 use Rattle.command_base.specs.declared.status.Status.TheVariants as status
-use Rattle.cue_list_commands.specs.ListAnswer.{BuildAnswer, CuesAnswer, PairsAnswer}
+use Rattle.convert_commands.specs.ConvertVerdict.{ConvertVerdict}
+use Rattle.cue_list_commands.specs.Accepted.{IsGoodList}
+use Rattle.cue_list_commands.specs.ListVerdict.{BuildVerdict, CuesVerdict, PairsVerdict}
+use Rattle.cue_list_commands.specs.Output.{IsPlacedAs}
+use Rattle.dual_commands.specs.DualVerdict.{DualVerdict, IsSecond}
+use Rattle.insert_commands.specs.InsertVerdict.{InsertVerdict}
+use Rattle.load_commands.specs.LoadVerdict.{LoadVerdict}
+use Rattle.mcc_commands.specs.ExportMcc.{ExportMccVerdict, start_at}
+use Rattle.mcc_commands.specs.ImportMcc.{ImportMccVerdict}
+use Rattle.scc_commands.specs.Export.{ExportVerdict}
+use Rattle.scc_commands.specs.Import.{ImportVerdict}
+use Rattle.verify_commands.specs.VerifyVerdict.{VerifyVerdict}
 use Rattle.words_commands.specs.ConcealedScreens.{concealed_changes}
 use Rattle.words_commands.specs.PacketLines.{packet_lines}
 use Rattle.words_commands.specs.Screens.{changes_of}
-use Rattle.words_commands.specs.WordsAnswer.{ChangesAnswer, ShowAnswer}
-use Rattle.scc_commands.specs.Export.{ExportAnswer}
-use Rattle.scc_commands.specs.Import.{ImportAnswer}
-use Rattle.cue_list_commands.specs.SideEnds.{SideEnds}
-use Rattle.verify_commands.specs.VerifyAnswer.{VerifyAnswer}
-use Rattle.insert_commands.specs.InsertAnswer.{InsertAnswer}
-use Rattle.load_commands.specs.LoadAnswer.{LoadAnswer}
-use Rattle.dual_commands.specs.DualAnswer.{DualAnswer}
-use Rattle.convert_commands.specs.ConvertAnswer.{ConvertAnswer}
+use Rattle.words_commands.specs.Verdicts.{ChangesVerdict, ShowVerdict}
+use Rattle.xds_commands.specs.XdsVerdict.{AreItsPackets, XdsVerdict}
+use Rattle.ccsuite_cli.specs.Command.{has_side_file}
 use Rattle.ccsuite_cli.specs.declared.command.Command.{Command}
 use Rattle.ccsuite_cli.specs.declared.command.Command.TheVariants.{Build, Conceal, Convert, Cues, Decode, Dual, Export, ExportMcc, Import, ImportMcc, Insert, Load, Pairs, Show, Verify, Xds, XdsShow}
-use Rattle.mcc_commands.specs.ExportMcc.{ExportMccAnswer, start_at}
-use Rattle.mcc_commands.specs.ImportMcc.{ImportMccAnswer}
-use Rattle.xds_commands.specs.XdsAnswer.{XdsAnswer}
 
--- what a run answers: by its side file too, where its command reads one, and else it leaves that
+-- what a command makes of its side file and its input
+abbrev pub verdict_of : Command → Verdict
+verdict_of Pairs aside = PairsVerdict
+verdict_of Build aside = BuildVerdict
+verdict_of Cues aside = CuesVerdict
+verdict_of Dual aside = DualVerdict aside
+verdict_of Xds aside = XdsVerdict aside
+verdict_of Decode aside = ChangesVerdict changes_of
+verdict_of (Show frame) aside = ShowVerdict frame
+verdict_of Conceal aside = ChangesVerdict concealed_changes
+verdict_of XdsShow aside = ChangesVerdict packet_lines
+verdict_of Verify aside = VerifyVerdict aside
+verdict_of Insert aside = InsertVerdict aside
+verdict_of Convert aside = ConvertVerdict
+verdict_of Import aside = ImportVerdict
+verdict_of (Export time) aside = ExportVerdict time
+verdict_of ImportMcc aside = ImportMccVerdict
+verdict_of (ExportMcc count time) aside = ExportMccVerdict (start_at count time)
+verdict_of (Load count) aside = LoadVerdict count
+
+-- a command that names a side file reads it; a run of another is that of an empty one
+abbrev pub side_for : Command → SideEnds → SideEnds
+side_for command side = if has_side_file (Some command) then side else no_side
+
+-- `load` reads no input: its run is that of an empty one
+abbrev pub input_for : Command → Ends → Ends
+input_for (Load count) e = ends (Some []) e.read_faults e.written e.write_faults
+input_for _ e = e
+
+-- what a run answers; words that are no command are Usage, and nothing happened
 abbrev pub Answer : Option Command → SideEnds → SideEnds → Ends → Ends → Status → Type 0
 Answer None side later old new answer = (later ≡ side) × (new ≡ old) × (answer ≡ status.Usage)
-Answer (Some Pairs) side later old new answer = (later ≡ side) × PairsAnswer old new answer
-Answer (Some Build) side later old new answer = (later ≡ side) × BuildAnswer old new answer
-Answer (Some Cues) side later old new answer = (later ≡ side) × CuesAnswer old new answer
-Answer (Some Decode) side later old new answer = (later ≡ side) × ChangesAnswer changes_of old new answer
-Answer (Some (Show frame)) side later old new answer = (later ≡ side) × ShowAnswer frame old new answer
-Answer (Some Verify) side later old new answer = VerifyAnswer side later old new answer
-Answer (Some Insert) side later old new answer = InsertAnswer side later old new answer
-Answer (Some Import) side later old new answer = (later ≡ side) × ImportAnswer old new answer
-Answer (Some (Export time)) side later old new answer = (later ≡ side) × ExportAnswer time old new answer
-Answer (Some (Load count)) side later old new answer = (later ≡ side) × LoadAnswer count old new answer
-Answer (Some Dual) side later old new answer = DualAnswer side later old new answer
-Answer (Some Xds) side later old new answer = XdsAnswer side later old new answer
-Answer (Some XdsShow) side later old new answer = (later ≡ side) × ChangesAnswer packet_lines old new answer
-Answer (Some Conceal) side later old new answer = (later ≡ side) × ChangesAnswer concealed_changes old new answer
-Answer (Some Convert) side later old new answer = (later ≡ side) × ConvertAnswer old new answer
-Answer (Some ImportMcc) side later old new answer = (later ≡ side) × ImportMccAnswer old new answer
-Answer (Some (ExportMcc count time)) side later old new answer = (later ≡ side) × ExportMccAnswer (start_at count time) old new answer
+Answer (Some command) side later old new answer =
+    Realises (verdict_of command) (side_for command side) (side_for command later) (input_for command old) (input_for command new) answer
+
+-- what a run leaves as it was: its ends where it is out of memory, but for a command that reads its input whole, or its side file; and its
+-- ends where its side file isn't accepted
+abbrev pub IsUntouched : Option Command → SideEnds → Ends → Ends → Status → Type 0
+IsUntouched None side old new answer = ⊤
+IsUntouched (Some Pairs) side old new answer = ⊤
+IsUntouched (Some Build) side old new answer = ⊤
+IsUntouched (Some Cues) side old new answer = ⊤
+IsUntouched (Some Import) side old new answer = ⊤
+IsUntouched (Some Dual) side old new answer = AwaitsSide IsSecond side old new
+IsUntouched (Some Xds) side old new answer = AwaitsSide AreItsPackets side old new
+IsUntouched (Some Verify) side old new answer = LeavesAll old new answer × AwaitsSide IsGoodList side old new
+IsUntouched (Some Insert) side old new answer = LeavesAll old new answer × AwaitsSide IsPlacedAs side old new
+IsUntouched (Some (Load count)) side old new answer = LeavesAll old new answer × (new.left ≡ old.left)
+IsUntouched (Some command) side old new answer = LeavesAll old new answer

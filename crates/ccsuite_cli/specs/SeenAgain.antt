@@ -15,7 +15,7 @@ use Rattle.command_base.specs.declared.status.Status.{Status}
 use Rattle.command_base.specs.declared.status.Status.TheVariants as status
 use Rattle.cue_list_commands.specs.Accepted.{IsAccepted}
 use Rattle.cue_list_commands.specs.Output.{build_output}
-use Rattle.cue_list_commands.specs.SideEnds.{SideEnds}
+use Rattle.command_base.specs.SideEnds.{SideEnds}
 use Rattle.words_commands.specs.ConcealedScreens.{conceal_output}
 use Rattle.lost.specs.Concealer.{Concealer}
 use Rattle.lost.specs.Concealers.{HasConcealed, concealed_frames, receiver_of}

@@ -6,7 +6,7 @@ use Rattle.frame_carrier.specs.Planned.{Placement}
 use Rattle.cue_list_commands.specs.Accepted.{IsAccepted}
 use Rattle.cue_list_commands.specs.Output.{build_output}
 use Rattle.frame_carrier.specs.Framing.{words_of}
-use Rattle.verify_commands.specs.VerifyVerdict.{AreVerified}
+use Rattle.verify_commands.specs.Verified.{AreVerified}
 use Rattle.xds_commands.specs.PacketLists.{IsGoodPackets}
 use Rattle.xds_commands.specs.PlacedPackets.{IsPlacedWith, PlacedPackets}
 use Rattle.xds_commands.specs.XdsWords.{xds_framing}

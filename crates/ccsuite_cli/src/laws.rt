@@ -3,86 +3,27 @@ ghost use Rattle.ccsuite_cli.specs.Converted.{BuiltWordsAreFit};
 ghost use Rattle.ccsuite_cli.specs.Seen.{BuiltWordsAreSeen, DualWordsAreSeen, InsertedWordsAreSeen, XdsWordsAreSeen};
 ghost use Rattle.ccsuite_cli.specs.SeenAgain.{AllFramesAreBuilt, BuiltWordsAreSeenAgain, DeliveredIsConcealed, DeliveredIsUnrefused};
 ghost use Rattle.ccsuite_cli.specs.Earlier.{EarlierWordsStay};
-ghost use Rattle.ccsuite_cli.specs.Verdict.{AcceptedIsAnswered, FaultsAreTold, FileIsDecoded, FileIsShown, GoodListIsWritten, LoadIsAnswered, LongWordsAreRefused, MalformedIsRefused, RefusedImportIsAnswered, RefusedListIsAnswered, SccFileIsImported};
+ghost use Rattle.ccsuite_cli.specs.Verdict.{EveryInputHasVerdict, FaultsAreTold, VerdictIsAnswered, VerdictIsOne};
 ghost use Rattle.ccsuite_cli.specs.Verified.{BuiltWordsAreVerified, XdsWordsAreVerified};
-ghost use Rattle.scc_commands.specs.ExportVerdict.{FileIsExported, MalformedIsNotExported, StopIsAnswered};
 
-/// The law that every command that reads a cue list answers Ok to an input that is an accepted cue list, or Memory, where
-/// neither count of faults rose.
-pub fn accepted_is_answered()
-    ensures { AcceptedIsAnswered }
+/// The law that of bytes each command makes one status, but for ReadFault and WriteFault.
+pub fn verdict_is_one()
+    ensures { VerdictIsOne }
 {}
 
-/// The law that `cues` does so for a cue list that keeps the rules, whether or not it has room.
-pub fn good_list_is_written()
-    ensures { GoodListIsWritten }
+/// The law that of all bytes it makes one.
+pub fn every_input_has_verdict()
+    ensures { EveryInputHasVerdict }
 {}
 
-/// The law that every command that reads a cue list answers an input that it refuses with its one refusal, or Memory, where
-/// neither count of faults rose.
-pub fn refused_list_is_answered()
-    ensures { RefusedListIsAnswered }
+/// The law that a run in which no count of faults rose answers the status that its command makes of the bytes, and has put that text; or
+/// Memory, and has put nothing.
+pub fn verdict_is_answered()
+    ensures { VerdictIsAnswered }
 {}
 
-/// The law that `decode`, `conceal` and `xds-show` answer Ok to an input that is a words file within the limit, or Memory, where neither count of
-/// faults rose.
-pub fn file_is_decoded()
-    ensures { FileIsDecoded }
-{}
-
-/// The law that `show` answers such an input Ok where it has the frame, Short with the number of its frames where it hasn't,
-/// or Memory.
-pub fn file_is_shown()
-    ensures { FileIsShown }
-{}
-
-/// The law that these four answer an input whose words are malformed with the place and the reason of the first offending word, or of
-/// its end, or Memory.
-pub fn malformed_is_refused()
-    ensures { MalformedIsRefused }
-{}
-
-/// The law that these four answer an input of more bytes than the limit with the first offending word within the limit, or with the
-/// limit where no word within it offends, or Memory.
-pub fn long_words_are_refused()
-    ensures { LongWordsAreRefused }
-{}
-
-/// The law that `import` answers Ok to an input that is an SCC file within the limits, or Memory, where neither count of faults rose.
-pub fn scc_file_is_imported()
-    ensures { SccFileIsImported }
-{}
-
-/// The law that it answers any other input with its one refusal: the first offence, or the limit that it passes, or Memory.
-pub fn refused_import_is_answered()
-    ensures { RefusedImportIsAnswered }
-{}
-
-/// The law that `export` answers Ok to an input that is a words file within the limit, at none of whose frames anything is found and
-/// none of whose pairs stands past the day, or Memory, where neither count of faults rose.
-pub fn file_is_exported()
-    ensures { FileIsExported }
-{}
-
-/// The law that it answers malformed words with no such frame with the place and the reason of their first offending word, or of their
-/// end, or Memory.
-pub fn malformed_is_not_exported()
-    ensures { MalformedIsNotExported }
-{}
-
-/// The law that it answers words with a frame at which something is found, or whose pair stands past the day, with just that, or Memory,
-/// where the frames before it are exported, whatever follows the frame.
-pub fn stop_is_answered()
-    ensures { StopIsAnswered }
-{}
-
-/// The law that `load` answers Ok, or Memory, where the output's count of faults didn't rise, whatever the number of captions.
-pub fn load_is_answered()
-    ensures { LoadIsAnswered }
-{}
-
-/// The law that every run answers ReadFault where the input's count of faults is greater than before, and WriteFault where the
-/// output's is.
+/// The law that every run answers ReadFault where the count of faults of its side file or of its input is greater than before, and
+/// WriteFault where the output's is.
 pub fn faults_are_told()
     ensures { FaultsAreTold }
 {}

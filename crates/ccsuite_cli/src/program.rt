@@ -1,9 +1,9 @@
 ghost use Rattle.std.specs.Prelude.{◌≡◌, Some, false, map, string_bytes};
-ghost use Rattle.ccsuite_cli.specs.Answer.{Answer};
+ghost use Rattle.ccsuite_cli.specs.Answer.{Answer, IsUntouched};
 ghost use Rattle.ccsuite_cli.specs.Command.{IsRunnable, command_of, has_side_file};
 ghost use Rattle.command_base.specs.Ends.{ends};
 ghost use Rattle.ccsuite_cli.specs.StatusLine.{PutsLine};
-ghost use Rattle.cue_list_commands.specs.SideEnds.{side_ends};
+ghost use Rattle.command_base.specs.SideEnds.{side_ends};
 
 use crate::command::{Command, read_command};
 use crate::status_line::put_status;
@@ -37,6 +37,11 @@ pub fn run<M: Source, S: Source, O: Sink, E: Sink>(
         (ends (M.left input.old) (M.faults input.old) (O.written out.old) (O.faults out.old))
         (ends (M.left input.new) (M.faults input.new) (O.written out.new)
         (O.faults out.new)) result }
+    ensures untouched { IsUntouched (command_of (map string_bytes words.now))
+        (side_ends (S.left side.old) (S.faults side.old))
+        (ends (M.left input.old) (M.faults input.old) (O.written out.old) (O.faults out.old))
+        (ends (M.left input.new) (M.faults input.new) (O.written out.new)
+        (O.faults out.new)) result }
     ensures side { has_side_file (command_of (map string_bytes words.now)) ≡ false
         → side.new ≡ side.old }
     ensures line { PutsLine (E.written err.old) (E.written err.new) (E.faults err.old)
@@ -62,6 +67,11 @@ fn obey<M: Source, S: Source, O: Sink>(
         (ends (M.left input.old) (M.faults input.old) (O.written out.old) (O.faults out.old))
         (ends (M.left input.new) (M.faults input.new) (O.written out.new)
         (O.faults out.new)) result }
+    ensures untouched { IsUntouched command
+        (side_ends (S.left side.old) (S.faults side.old))
+        (ends (M.left input.old) (M.faults input.old) (O.written out.old) (O.faults out.old))
+        (ends (M.left input.new) (M.faults input.new) (O.written out.new)
+        (O.faults out.new)) result }
     ensures side { has_side_file command ≡ false → side.new ≡ side.old }
 {
     match command {
@@ -82,6 +92,11 @@ pub fn perform<M: Source, S: Source, O: Sink>(
     ensures answer { Answer (Some command)
         (side_ends (S.left side.old) (S.faults side.old))
         (side_ends (S.left side.new) (S.faults side.new))
+        (ends (M.left input.old) (M.faults input.old) (O.written out.old) (O.faults out.old))
+        (ends (M.left input.new) (M.faults input.new) (O.written out.new)
+        (O.faults out.new)) result }
+    ensures untouched { IsUntouched (Some command)
+        (side_ends (S.left side.old) (S.faults side.old))
         (ends (M.left input.old) (M.faults input.old) (O.written out.old) (O.faults out.old))
         (ends (M.left input.new) (M.faults input.new) (O.written out.new)
         (O.faults out.new)) result }

@@ -1,7 +1,8 @@
 -- Counts that are greater than before have their own answer.
 use Rattle.std.proofs.Common.{◌≡◌, ap, arith, refl}
-use Rattle.command_base.specs.Counts.{TellsFaults}
+use Rattle.command_base.specs.Counts.{TellsFaults, TellsSideFaults}
 use Rattle.command_base.specs.Ends.{Ends}
+use Rattle.command_base.specs.SideEnds.{SideEnds}
 use Rattle.command_base.specs.declared.status.Status.{Status}
 use Rattle.command_base.specs.declared.status.Status.TheVariants as status
 
@@ -20,3 +21,7 @@ read_told old new writes = record { reads = λ rose. refl; writes = λ rose. abs
 
 pub write_told : (old new : Ends) → new.read_faults ≡ old.read_faults → TellsFaults old new status.WriteFault
 write_told old new reads = record { reads = λ rose. absurd (omega arith); writes = λ rose. refl }
+
+-- the side file's count didn't rise
+pub side_kept : (side later : SideEnds) (answer : Status) → later.faults ≡ side.faults → TellsSideFaults side later answer
+side_kept side later answer kept rose = absurd (omega arith)

@@ -1,6 +1,9 @@
 pub mod SideFiles
+pub mod SideEnds
 pub mod Counts
 pub mod Ends
-pub mod MakesAnswer
-pub mod StatusCode
 pub mod WholeInput
+pub mod Realises
+pub mod MadeVerdict
+pub mod Exact
+pub mod StatusCode

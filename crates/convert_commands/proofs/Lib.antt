@@ -1,3 +1,3 @@
 pub mod ConvertingLemmas
-pub mod ConvertAnswerLemmas
-pub mod ConvertVerdictLemmas
+pub mod AnswerLemmas
+pub mod VerdictLemmas

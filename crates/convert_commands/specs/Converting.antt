@@ -7,7 +7,7 @@ use Rattle.rate_convert.specs.Converters.{HasConverted, converted_frames, conver
 use Rattle.rate_convert.specs.declared.converter.Converter.{Converter}
 use Rattle.services_files.specs.CaptionChannel.{caption_channel}
 use Rattle.words_files.specs.Offences.{IsUnoffending}
-use Rattle.convert_commands.specs.ConvertAnswer.{AreConverted}
+use Rattle.convert_commands.specs.ConvertVerdict.{AreConverted}
 use Rattle.convert_commands.specs.declared.converting.Converting.{Converting}
 use Rattle.convert_commands.specs.declared.converting.Unfit.{Unfit}
 

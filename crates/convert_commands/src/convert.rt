@@ -1,5 +1,6 @@
 ghost use Rattle.command_base.specs.Ends.{ends};
-ghost use Rattle.convert_commands.specs.ConvertAnswer.{ConvertAnswer};
+ghost use Rattle.convert_commands.specs.ConvertVerdict.{ConvertVerdict};
+ghost use Rattle.command_base.specs.Realises.{RealisesLeaving};
 
 use crate::converting::Converting;
 use cc_base::{Sink, Source};
@@ -14,7 +15,7 @@ use words_reading::read_words;
 /// Misfit comes at the first frame that can't be converted, or behind which something else would be seen; Malformed at the first offending
 /// word, or where the file is cut short. Then the words of the frames before were put.
 pub fn run_convert<M: Source, O: Sink>(alloc: Global, input: &mut M, out: &mut O) -> Status
-    ensures { ConvertAnswer
+    ensures { RealisesLeaving ConvertVerdict
         (ends (M.left input.old) (M.faults input.old) (O.written out.old) (O.faults out.old))
         (ends (M.left input.new) (M.faults input.new) (O.written out.new)
         (O.faults out.new)) result }

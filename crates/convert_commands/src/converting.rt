@@ -1,5 +1,5 @@
 ghost use Rattle.std.specs.Prelude.{List};
-ghost use Rattle.convert_commands.specs.ConvertAnswer.{AreConverted, ConvertHalts};
+ghost use Rattle.convert_commands.specs.ConvertVerdict.{AreConverted, ConvertHalts};
 ghost use Rattle.convert_commands.specs.Converting.{HasMade, IsUnderway, unfit_status};
 
 use cc_base::{Put, Refusal, Sink};

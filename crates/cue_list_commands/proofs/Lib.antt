@@ -11,9 +11,8 @@ pub use Rattle.services_shown.proofs.SoundSeenLemmas
 pub use Rattle.services_shown.proofs.ToldLemmas
 pub mod MadeLemmas
 mod GatheredLines
-pub mod ListAnswerLemmas
 pub mod ListVerdictLemmas
 mod Migrated
 pub mod Outputs
-mod Refusals
-pub mod SideLemmas
+pub mod Refusals
+pub mod EveryLemmas

@@ -21,10 +21,16 @@ use Rattle.frame_scheduler.proofs.RoomDecided.{list_decided}
 use Rattle.cc_base.specs.Streams.{whole_limit}
 use Rattle.cue_list_commands.specs.Accepted.{BreaksRule, IsAccepted, IsFaulty, IsGoodList, IsRefused, IsRefusedList, SpellGoodList}
 use Rattle.cue_list_commands.specs.Reads.{form_status}
-use Rattle.cue_list_commands.specs.ListVerdict.{AcceptanceIsOne, AcceptedIsNotRefused, EveryListIsJudged, RefusalIsOne}
+use Rattle.cue_list_commands.specs.Judged.{AcceptanceIsOne, AcceptedIsNotRefused, EveryListIsJudged, RefusalIsOne}
 use Rattle.command_base.specs.declared.status.Place.TheVariants.{Field}
 use Rattle.command_base.specs.declared.status.Status.{Status}
 use Rattle.command_base.specs.declared.status.Status.TheVariants as status
+use Rattle.command_base.proofs.OneLemmas.{made_one}
+use Rattle.command_base.specs.Exact.{IsOne}
+use Rattle.cue_list_commands.specs.ListVerdict.{BuildVerdict, CuesVerdict, IsReadAgain, PairsVerdict}
+use Rattle.cue_list_commands.specs.Output.{IsPlacedAs, IsSoundPairs, IsSoundWords, PlacedList, framing_of, lines_of}
+use Rattle.cue_lists.specs.Printing.{list_bytes}
+use Rattle.frame_carrier.specs.Framing.{words_of}
 use Rattle.cue_lists.proofs.ListLimits.{no_want_of_memory}
 use Rattle.cue_list_commands.proofs.Refusals.{form_refused, ok_is_no_fault, refused_list}
 
@@ -186,3 +192,16 @@ every_list_judged bytes =
       | inl long ↦ inr (status.Limit limit.Bytes, long)
       | inr within ↦ read_judged bytes (read_list bytes) within refl
     ]
+
+-- so each command that reads a list makes one status of it
+placed_not_refused : (bytes : List ℕ) (made : PlacedList) (answer : Status) → IsPlacedAs bytes made → IsRefused bytes answer → ⊥
+placed_not_refused bytes made answer = accepted_not_refused bytes made.list made.placed answer
+
+pub pairs_one : IsOne (λ aside. PairsVerdict)
+pairs_one aside = made_one IsPlacedAs (λ made. lines_of (framing_of made)) IsSoundPairs IsRefused placed_not_refused refused_once
+
+pub build_one : IsOne (λ aside. BuildVerdict)
+build_one aside = made_one IsPlacedAs (λ made. words_of (framing_of made)) IsSoundWords IsRefused placed_not_refused refused_once
+
+pub cues_one : IsOne (λ aside. CuesVerdict)
+cues_one aside = made_one IsGoodList list_bytes IsReadAgain IsRefusedList good_not_refused list_refused_once

@@ -1,5 +1,5 @@
 -- The output of a programme that was made of accepted bytes.
-use Rattle.std.proofs.Common.{ℕ, List, Option, Some, None, Result, Ok, Err}
+use Rattle.std.proofs.Common.{ℕ, List, Option, Some, None, Result, Ok, Err, refl}
 use Rattle.std.specs.Prelude.{IfSome}
 use Rattle.cc_base.specs.Streams.{Puts}
 use Rattle.cc_base.specs.declared.streams.Put.{Put}
@@ -10,7 +10,7 @@ use Rattle.frame_scheduler.specs.Columns.{Columns}
 use Rattle.frame_carrier.specs.Framing.{Framing, HasFraming}
 use Rattle.frame_carrier.specs.declared.programme.Programme.{Programme}
 use Rattle.cue_list_commands.specs.Made.{IsMadeOf, IsProgrammeOf}
-use Rattle.command_base.specs.MakesAnswer.{PutsMade}
+use Rattle.command_base.proofs.MadeLemmas.{PutsMade}
 
 -- what was put of a programme's frames, or a front of it, is what was made of the accepted bytes
 pub made_put : {A F : Type 0} (IsAccepted : List ℕ → A → Type 0) (framing_of : A → Framing) (output : Framing → List ℕ) (IsSound : A → Type 0) (left : F → ℕ) (Gives : Columns → ℕ → F → Type 0)
@@ -20,7 +20,7 @@ pub made_put : {A F : Type 0} (IsAccepted : List ℕ → A → Type 0) (framing_
     → IfSome bytes_left (λ bytes. PutsMade IsAccepted (λ made. output (framing_of made)) IsSound answer bytes old new)
 made_put IsAccepted framing_of output IsSound left Gives answer None old new programme of puts = tt
 made_put IsAccepted framing_of output IsSound left Gives answer (Some bytes) old new programme of puts =
-    record { made = of.is.made; accepted = of.is.accepted; output_is = puts (framing_of of.is.made) of.is.framing; sound = of.sound }
+    (output (framing_of of.is.made), (of.is.made, of.is.accepted, refl, of.sound), puts (framing_of of.is.made) of.is.framing)
 
 -- what is read with something else that follows
 read_as : {A : Type 0} (Is Other : List ℕ → A → Type 0) (Refused : List ℕ → Status → Type 0) (old new : Option (List ℕ)) (before now : ℕ) (r : Result A Status)

@@ -1,5 +1,5 @@
 -- What holds of the output of an accepted list.
-use Rattle.std.proofs.Common.{◌≡◌, ◌∙◌, subst, ℕ, List, Option, Some, None}
+use Rattle.std.proofs.Common.{◌≡◌, ◌∙◌, refl, subst, ℕ, List, Option, Some, None}
 use Rattle.std.specs.Prelude.{IfSome}
 use Rattle.cc_base.specs.Streams.{Puts}
 use Rattle.line21_codes.specs.declared.channels.FieldNumber.TheVariants.{One, Two}
@@ -21,7 +21,8 @@ use Rattle.services_shown.proofs.DelayLemmas.{delays_sent}
 use Rattle.services_shown.proofs.SeenLemmas.{authored_windows_seen}
 use Rattle.services_shown.proofs.CaptionedLemmas.{AreBytes, frame_bytes}
 use Rattle.services_shown.proofs.SequenceLemmas.{authored_seen}
-use Rattle.command_base.specs.MakesAnswer.{PutsMade}
+use Rattle.command_base.proofs.MadeLemmas.{PutsMade}
+use Rattle.cue_list_commands.specs.ListVerdict.{IsReadAgain}
 use Rattle.cue_list_commands.specs.Accepted.{IsGoodList}
 use Rattle.cue_list_commands.specs.Output.{IsPlacedAs, IsSoundPairs, IsSoundWords, PlacedList, list_grids, list_told}
 use Rattle.services_shown.specs.Showing.{ColumnsShow}
@@ -80,11 +81,10 @@ sound_words bytes made accepted =
 -- a list was put as it is written, or a front of that
 pub list_put : (answer : Put) (left old new : Option (List ℕ)) (list : Listing) (text piece : List ℕ) → IfSome left (λ bytes. IsGoodList bytes list)
     → text ≡ list_bytes list → records_of text ≡ list_records version.Two (in_order list) → piece ≡ text → Puts old new answer piece
-    → IfSome left (λ bytes. PutsMade IsGoodList list_bytes (λ made. records_of (list_bytes made) ≡ list_records version.Two (in_order made)) answer bytes old new)
+    → IfSome left (λ bytes. PutsMade IsGoodList list_bytes IsReadAgain answer bytes old new)
 list_put answer None old new list text piece good is again same puts = tt
-list_put answer (Some bytes) old new list text piece good is again same puts = record {
-  made = list;
-  accepted = good;
-  output_is = subst (Puts old new answer) (same ∙ is) puts;
-  sound = subst (λ (t : List ℕ). records_of t ≡ list_records version.Two (in_order list)) is again;
-}
+list_put answer (Some bytes) old new list text piece good is again same puts = (
+  list_bytes list,
+  (list, good, refl, subst (λ (t : List ℕ). records_of t ≡ list_records version.Two (in_order list)) is again),
+  subst (Puts old new answer) (same ∙ is) puts,
+)

@@ -16,10 +16,8 @@ pub use Rattle.services_shown.specs.Told
 pub mod Made
 pub mod Accepted
 pub mod Lines
-pub mod ListAnswer
+pub mod Judged
 pub mod ListVerdict
 pub mod Migration
 pub mod Output
 pub mod Reads
-pub mod SideEnds
-pub mod SideLists

@@ -1,26 +1,29 @@
--- Between crates: the program's answer stands on none of these definitions.
--- The verdict on a cue list: it is accepted, or it is refused with one status, and never both.
-use Rattle.std.specs.Prelude.{◌≡◌, ◌⊎◌, ℕ, List}
-use Rattle.cue_lists.specs.Listing.{Listing}
-use Rattle.frame_scheduler.specs.Planned.{Placement}
+-- Believed: the program's answer stands on these definitions.
+-- What the commands make of their input that read a cue list.
+use Rattle.std.specs.Prelude.{◌≡◌, ℕ, List}
+use Rattle.command_base.specs.MadeVerdict.{MadeVerdict}
 use Rattle.command_base.specs.declared.status.Status.{Status}
-use Rattle.cue_list_commands.specs.Accepted.{IsAccepted, IsRefused}
+use Rattle.cue_list_commands.specs.Accepted.{IsGoodList, IsRefused, IsRefusedList}
+use Rattle.cue_list_commands.specs.Output.{IsPlacedAs, IsSoundPairs, IsSoundWords, framing_of, lines_of}
+use Rattle.cue_lists.specs.Listing.{Listing}
+use Rattle.cue_lists.specs.Printing.{in_order, list_bytes}
+use Rattle.cue_lists.specs.Records.{records_of}
+use Rattle.cue_lists.specs.Spelling.{list_records}
+use Rattle.cue_lists.specs.declared.head.Version.TheVariants as version
+use Rattle.frame_carrier.specs.Framing.{words_of}
 
--- a list that is accepted is refused with no status
-abbrev pub AcceptedIsNotRefused : Type 0
-AcceptedIsNotRefused = (bytes : List ℕ) (list : Listing) (placed : Placement) (answer : Status)
-    → IsAccepted bytes list placed → IsRefused bytes answer → ⊥
+-- `pairs`: the lines of the frames of an accepted list
+abbrev pub PairsVerdict : List ℕ → Status → List ℕ → Type 0
+PairsVerdict = MadeVerdict IsPlacedAs (λ made. lines_of (framing_of made)) IsSoundPairs IsRefused
 
--- bytes that are accepted are accepted as one list, with one placement
-abbrev pub AcceptanceIsOne : Type 0
-AcceptanceIsOne = (bytes : List ℕ) (one other : Listing) (placed moved : Placement)
-    → IsAccepted bytes one placed → IsAccepted bytes other moved → (one ≡ other) × (placed ≡ moved)
+-- `build`: their words
+abbrev pub BuildVerdict : List ℕ → Status → List ℕ → Type 0
+BuildVerdict = MadeVerdict IsPlacedAs (λ made. words_of (framing_of made)) IsSoundWords IsRefused
 
--- a list that is refused is refused with one status
-abbrev pub RefusalIsOne : Type 0
-RefusalIsOne = (bytes : List ℕ) (one other : Status) → IsRefused bytes one → IsRefused bytes other → one ≡ other
+-- what is written of a list in version 2 is read as that list again
+abbrev pub IsReadAgain : Listing → Type 0
+IsReadAgain list = records_of (list_bytes list) ≡ list_records version.Two (in_order list)
 
--- every list is accepted or refused
-abbrev pub EveryListIsJudged : Type 0
-EveryListIsJudged = (bytes : List ℕ)
-    → ((list : Listing) × (placed : Placement) × IsAccepted bytes list placed) ⊎ ((answer : Status) × IsRefused bytes answer)
+-- `cues`: a list that keeps the rules, whether it has room or not, as it is written
+abbrev pub CuesVerdict : List ℕ → Status → List ℕ → Type 0
+CuesVerdict = MadeVerdict IsGoodList list_bytes IsReadAgain IsRefusedList

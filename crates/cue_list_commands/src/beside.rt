@@ -2,7 +2,9 @@ ghost use Rattle.std.specs.Prelude.{ℕ, List};
 ghost use Rattle.command_base.specs.Ends.{ends};
 ghost use Rattle.command_base.specs.WholeInput.{ReadsInput};
 ghost use Rattle.command_base.specs.declared.status.Status.{Status as OfStatus};
-ghost use Rattle.command_base.specs.MakesAnswer.{BesideAnswer, MakesAnswer};
+ghost use Rattle.command_base.specs.MadeVerdict.{BesideVerdict, MadeVerdict};
+ghost use Rattle.command_base.specs.Realises.{AwaitsSide, Realises};
+ghost use Rattle.command_base.specs.SideEnds.{side_ends};
 
 use crate::run::{Makes, run_made};
 use cc_base::{Sink, Source};
@@ -34,14 +36,18 @@ pub fn run_beside<B: ReadsSide, S: Source, M: Source, O: Sink>(
     input: &mut M,
     out: &mut O,
 ) -> Status
-    ensures { BesideAnswer B.IsRead B.Refuses
-        (λ command. MakesAnswer (B.Command.IsAccepted command)
+    ensures answer { Realises (BesideVerdict B.IsRead B.Refuses
+        (λ command. MadeVerdict (B.Command.IsAccepted command)
         (λ made. B.Command.Puts.bytes_of (B.Command.framing_of made))
-        B.Command.IsSound (B.Command.Refused command))
-        (S.left side.old) (S.left side.new) (S.faults side.old) (S.faults side.new)
+        B.Command.IsSound (B.Command.Refused command)))
+        (side_ends (S.left side.old) (S.faults side.old))
+        (side_ends (S.left side.new) (S.faults side.new))
         (ends (M.left input.old) (M.faults input.old) (O.written out.old) (O.faults out.old))
         (ends (M.left input.new) (M.faults input.new) (O.written out.new)
         (O.faults out.new)) result }
+    ensures untouched { AwaitsSide B.IsRead (side_ends (S.left side.old) (S.faults side.old))
+        (ends (M.left input.old) (M.faults input.old) (O.written out.old) (O.faults out.old))
+        (ends (M.left input.new) (M.faults input.new) (O.written out.new) (O.faults out.new)) }
 {
     match command.read_side(alloc, side) {
         Ok(command) => run_made(command, alloc, input, out),

@@ -1,4 +1,5 @@
-ghost use Rattle.cue_list_commands.specs.ListAnswer.{BuildAnswer};
+ghost use Rattle.command_base.specs.Realises.{RealisesAlone};
+ghost use Rattle.cue_list_commands.specs.ListVerdict.{BuildVerdict};
 ghost use Rattle.command_base.specs.Ends.{ends};
 
 use crate::accept::read_programme;
@@ -38,7 +39,7 @@ impl Makes for Build {
 
 /// Reads a cue list, and puts the ancillary packets of its frames, gathered so that a put has those of many.
 pub fn run_build<M: Source, O: Sink>(alloc: Global, input: &mut M, out: &mut O) -> Status
-    ensures { BuildAnswer
+    ensures { RealisesAlone BuildVerdict
         (ends (M.left input.old) (M.faults input.old) (O.written out.old) (O.faults out.old))
         (ends (M.left input.new) (M.faults input.new) (O.written out.new)
         (O.faults out.new)) result }

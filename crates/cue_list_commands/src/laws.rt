@@ -1,5 +1,5 @@
 //! Laws of the verdict on a cue list: functions that do nothing, with the laws as their contracts.
-ghost use Rattle.cue_list_commands.specs.ListVerdict.{AcceptanceIsOne, AcceptedIsNotRefused, EveryListIsJudged, RefusalIsOne};
+ghost use Rattle.cue_list_commands.specs.Judged.{AcceptanceIsOne, AcceptedIsNotRefused, EveryListIsJudged, RefusalIsOne};
 ghost use Rattle.cue_list_commands.specs.Migration.{WrittenIsBuiltAlike};
 
 /// The law that a cue list which is accepted is refused with no status.

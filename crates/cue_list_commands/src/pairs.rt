@@ -1,6 +1,7 @@
 ghost use Rattle.cc_base.specs.Streams.{PutCause, Puts};
 ghost use Rattle.frame_carrier.specs.Framing.{Framing, HasFraming};
-ghost use Rattle.cue_list_commands.specs.ListAnswer.{PairsAnswer};
+ghost use Rattle.command_base.specs.Realises.{RealisesAlone};
+ghost use Rattle.cue_list_commands.specs.ListVerdict.{PairsVerdict};
 ghost use Rattle.command_base.specs.Ends.{ends};
 ghost use Rattle.cue_list_commands.specs.Output.{lines_of};
 
@@ -43,7 +44,7 @@ impl Makes for Pairs {
 
 /// Reads a cue list, and puts one line a frame with the pairs of both fields.
 pub fn run_pairs<M: Source, O: Sink>(alloc: Global, input: &mut M, out: &mut O) -> Status
-    ensures { PairsAnswer
+    ensures { RealisesAlone PairsVerdict
         (ends (M.left input.old) (M.faults input.old) (O.written out.old) (O.faults out.old))
         (ends (M.left input.new) (M.faults input.new) (O.written out.new)
         (O.faults out.new)) result }

@@ -4,7 +4,8 @@ ghost use Rattle.command_base.specs.WholeInput.{ReadsInput};
 ghost use Rattle.command_base.specs.declared.status.Status.{Status as OfStatus};
 ghost use Rattle.frame_carrier.specs.Framing.{Framing};
 ghost use Rattle.cue_list_commands.specs.Made.{IsMadeOf};
-ghost use Rattle.command_base.specs.MakesAnswer.{MakesAnswer};
+ghost use Rattle.command_base.specs.MadeVerdict.{MadeVerdict};
+ghost use Rattle.command_base.specs.Realises.{RealisesAlone};
 
 use cc_base::{Put, Sink, Source};
 use command_base::Status;
@@ -45,8 +46,8 @@ pub fn run_made<C: Makes, M: Source, O: Sink>(
     input: &mut M,
     out: &mut O,
 ) -> Status
-    ensures { MakesAnswer (C.IsAccepted command)
-        (λ made. C.Puts.bytes_of (C.framing_of made)) C.IsSound (C.Refused command)
+    ensures { RealisesAlone (MadeVerdict (C.IsAccepted command)
+        (λ made. C.Puts.bytes_of (C.framing_of made)) C.IsSound (C.Refused command))
         (ends (M.left input.old) (M.faults input.old) (O.written out.old) (O.faults out.old))
         (ends (M.left input.new) (M.faults input.new) (O.written out.new)
         (O.faults out.new)) result }

@@ -11,13 +11,13 @@ use Rattle.cc_base.specs.declared.why.Why.TheVariants as why
 use Rattle.command_base.specs.declared.status.Place.TheVariants.{Field}
 use Rattle.command_base.specs.declared.status.Status.{Status}
 use Rattle.command_base.specs.declared.status.Status.TheVariants as status
-use Rattle.cue_list_commands.specs.Accepted.{IsGoodList, IsRefused, IsRefusedList}
-use Rattle.cue_list_commands.proofs.ListVerdictLemmas.{every_list_judged}
+use Rattle.cue_list_commands.specs.Accepted.{IsGoodList}
+use Rattle.cue_list_commands.proofs.EveryLemmas.{good_or_refused}
 use Rattle.cue_lists.specs.Listing.{IsFormed, Listing}
 use Rattle.cue_lists.specs.Rules.{IsRuled}
 use Rattle.cue_lists.specs.declared.list.Share.{Share}
 use Rattle.dual_commands.specs.DualLists.{IsPlacedBeside, IsRefusedBeside, IsRefusedPair, PlacedLists}
-use Rattle.dual_commands.specs.DualVerdict.{EveryFirstListIsJudged}
+use Rattle.dual_commands.specs.Judged.{EveryFirstListIsJudged}
 use Rattle.dual_plans.specs.DualPlacement.{DualPlacement, IsDualPlaced}
 use Rattle.dual_plans.specs.FieldPlaces.{GoTogether}
 use Rattle.dual_plans.specs.OtherList.{AreAlike, IsJudged}
@@ -103,18 +103,6 @@ pair_judged one two formed ruled second_formed second_ruled = by_alike (alike_de
     by_alike : AreAlike one two ⊎ ((at : OtherField) × IsJudged one two (Some at)) → PairJudged one two
     by_alike (inr at) = inr (status.Malformed (Field at.0.rec at.0.field) why.OtherList, at.1)
     by_alike (inl alike) = let least = least_always one two in by_clash alike least.0 least.1
-
--- bytes spell a list that keeps the rules, or are refused as a list
-good_or_refused : (bytes : List ℕ) → ((list : Listing) × IsGoodList bytes list) ⊎ ((answer : Status) × IsRefusedList bytes answer)
-good_or_refused bytes =
-    elim (every_list_judged bytes) [
-      | inl accepted ↦ inl (accepted.0, accepted.2.good)
-      | inr refused ↦ by_status refused.0 refused.1
-    ]
-  where
-    by_status : (answer : Status) → IsRefused bytes answer → ((list : Listing) × IsGoodList bytes list) ⊎ ((answer : Status) × IsRefusedList bytes answer)
-    by_status (status.NoRoom cue) lacks = inl (lacks.list, lacks.good)
-    by_status answer refused = inr (answer, refused)
 
 pub every_first_judged : EveryFirstListIsJudged
 every_first_judged second formed ruled bytes =

@@ -3,3 +3,4 @@ pub mod MadeLemmas
 pub mod PairLemmas
 pub mod VerdictLemmas
 pub mod JudgedLemmas
+pub mod EveryLemmas

@@ -2,5 +2,5 @@ pub use Rattle.dual_plans.specs.DualShown
 pub mod DualLists
 pub mod DualStatus
 pub mod DualWords
-pub mod DualAnswer
 pub mod DualVerdict
+pub mod Judged

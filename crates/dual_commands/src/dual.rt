@@ -1,7 +1,8 @@
 ghost use Rattle.std.specs.Prelude.{◌≡◌};
 ghost use Rattle.command_base.specs.Ends.{ends};
-ghost use Rattle.cue_list_commands.specs.SideEnds.{side_ends};
-ghost use Rattle.dual_commands.specs.DualAnswer.{DualAnswer};
+ghost use Rattle.command_base.specs.SideEnds.{side_ends};
+ghost use Rattle.command_base.specs.Realises.{AwaitsSide, Realises};
+ghost use Rattle.dual_commands.specs.DualVerdict.{DualVerdict, IsSecond};
 ghost use Rattle.dual_commands.specs.DualStatus.{fault_status};
 
 use crate::dual_of::DualOf;
@@ -79,11 +80,14 @@ pub fn run_dual<M: Source, S: Source, O: Sink>(
     side: &mut S,
     out: &mut O,
 ) -> Status
-    ensures { DualAnswer (side_ends (S.left side.old) (S.faults side.old))
+    ensures answer { Realises DualVerdict (side_ends (S.left side.old) (S.faults side.old))
         (side_ends (S.left side.new) (S.faults side.new))
         (ends (M.left input.old) (M.faults input.old) (O.written out.old) (O.faults out.old))
         (ends (M.left input.new) (M.faults input.new) (O.written out.new)
         (O.faults out.new)) result }
+    ensures untouched { AwaitsSide IsSecond (side_ends (S.left side.old) (S.faults side.old))
+        (ends (M.left input.old) (M.faults input.old) (O.written out.old) (O.faults out.old))
+        (ends (M.left input.new) (M.faults input.new) (O.written out.new) (O.faults out.new)) }
 {
     run_beside(Unread, alloc, side, input, out)
 }

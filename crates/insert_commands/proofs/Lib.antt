@@ -4,5 +4,6 @@ pub mod AlikeLemmas
 pub mod SoundLemmas
 pub mod StepLemmas
 pub mod AnswerLemmas
-pub mod ExactLemmas
+pub mod CarryLemmas
 pub mod VerdictLemmas
+pub mod EveryLemmas

@@ -1,5 +1,5 @@
 -- Words in which captions are inserted are judged packet by packet.
-use Rattle.std.proofs.Common.{◌≡◌, ℕ, ◌%◌, ◌<◌, inl, All, List, [], ◌∷◌, ◌++◌, length, take, drop, Option, Ok, Err, refl, ap, sym, subst, ◌∙◌, append_assoc, append-nil, length-append, arith}
+use Rattle.std.proofs.Common.{◌≡◌, ℕ, ◌%◌, inl, All, List, [], ◌∷◌, ◌++◌, length, take, drop, Option, Ok, Err, refl, ap, sym, subst, ◌∙◌, append_assoc, append-nil, length-append, arith}
 use Rattle.std.proofs.lemmas.List.{length-map}
 use Rattle.std.proofs.lemmas.List.Elements.{All-append, All-cons, All-nil}
 use Rattle.std.specs.List.{concat}
@@ -24,7 +24,7 @@ use Rattle.words_reading.proofs.WayLemmas.{way_unwritten}
 use Rattle.words_reading.specs.Causes.{words_limit}
 use Rattle.words_reading.specs.Judging.{HasGathered, HasStopped, IsReady}
 use Rattle.words_reading.specs.declared.judge.Stop.TheVariants as stop
-use Rattle.insert_commands.specs.InsertAnswer.{HaltsInserting, SaysInserted}
+use Rattle.insert_commands.specs.InsertVerdict.{HaltsInserting, SaysInserted}
 use Rattle.insert_commands.specs.InsertSteps.{HasJudged, HasLastFrame, HasReadWords, Replaces}
 use Rattle.insert_commands.specs.InsertedFile.{AreInserted, BringsFrame}
 use Rattle.insert_commands.specs.InsertedFile.AreInserted.{caption, foreign, nothing}
@@ -62,7 +62,6 @@ judged_so list frames file text bytes inserting spelled read gives inserted rate
       longest = λ others other rest is is_file.
           not_longer file (open_bytes inserting.packets) other rest read.none (sym spelled ∙ is) is_file.file.packets is_file.file.file;
     };
-    bytes_are = subst (All (λ byte. byte < 256)) (sym spelled) read.received.bytes_are;
     inserted = inserted;
     rates = rates;
   };
@@ -99,18 +98,16 @@ module _ (list : Framing) (start now : Option (List ℕ)) (held before bytes : L
   was = has_read list before had.text old had.judged
 
   -- a word was refused
-  pub word_refused : (refusal : Refusal) → All (λ byte. byte < 256) bytes → RefusesWord had.judged.says.frames_are.file (open_bytes old.packets ++ bytes) refusal
+  pub word_refused : (refusal : Refusal) → RefusesWord had.judged.says.frames_are.file (open_bytes old.packets ++ bytes) refusal
       → HasStopped (SaysInserted list) (HaltsInserting list) start now held (before ++ bytes) (stop.Refused refusal)
-  word_refused refusal are refuses =
+  word_refused refusal refuses =
       let all : before ++ bytes ≡ (file ++ refuses.behind) ++ refuses.rest =
       ap (λ b. b ++ bytes) had.judged.spelled ∙ append_assoc file (open_bytes old.packets) bytes ∙ ap (λ b. file ++ b) refuses.spelled
       ∙ sym (append_assoc file refuses.behind refuses.rest) in
       let frames_are = frames_up_to refusal frames file refuses.behind refuses.rest had.judged.read.under refuses.stands in
-      let bytes_are : All (λ byte. byte < 256) (before ++ bytes) = All-append (λ byte. byte < 256) before bytes had.judged.says.bytes_are are in
       let said : SaysInserted list ((file ++ refuses.behind) ++ refuses.rest) had.text = record {
         frames = frames;
         frames_are = frames_are;
-        bytes_are = subst (All (λ byte. byte < 256)) all bytes_are;
         inserted = had.judged.says.inserted;
         rates = had.judged.says.rates;
       } in

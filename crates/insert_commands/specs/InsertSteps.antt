@@ -16,7 +16,7 @@ use Rattle.services_files.specs.CaptionChannel.{caption_channel}
 use Rattle.words_files.specs.CarriedWords.{carried_words}
 use Rattle.frame_carrier.specs.Framing.{Framing}
 use Rattle.insert_commands.specs.Captions.{captions_of}
-use Rattle.insert_commands.specs.InsertAnswer.{IsHalt, SaysInserted}
+use Rattle.insert_commands.specs.InsertVerdict.{IsHalt, SaysInserted}
 use Rattle.insert_commands.specs.ListCaptions.{GivesCaptions}
 use Rattle.words_reading.specs.OpenPackets.{HasRead, HasReadPackets, open_bytes}
 use Rattle.frame_scheduler.specs.declared.frames.Plan.{Plan}

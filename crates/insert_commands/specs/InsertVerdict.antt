@@ -1,81 +1,73 @@
--- Between crates: the program's answer stands on none of these definitions.
--- The verdict of an insertion where no count of faults rose: words that can take the captions of an accepted list are answered Ok, malformed
--- ones with their one refusal, those with too few frames with their number, and those with a frame at which an insertion stops with the reason;
--- or with want of memory.
-use Rattle.std.specs.Prelude.{◌≡◌, ◌<◌, ◌≤◌, ◌⊎◌, ℕ, List, [], ◌∷◌, ◌++◌, length, take}
-use Rattle.cc_base.specs.declared.refusal.Refusal.{Refusal}
+-- Believed: the program's answer stands on these definitions.
+-- What `insert` makes of words and the captions of the cue list of its side file.
+use Rattle.std.specs.Prelude.{◌≡◌, ◌≢◌, ◌<◌, ◌≤◌, ℕ, List, [], ◌∷◌, ◌++◌, length}
+use Rattle.cc_base.specs.declared.limit_of.LimitOf.TheVariants as limit
 use Rattle.cdp_packets.specs.Packets.{Frame}
-use Rattle.command_base.specs.Counts.{IsReadOf}
-use Rattle.command_base.specs.Ends.{Ends}
-use Rattle.command_base.specs.declared.status.Place.TheVariants.{Byte}
+use Rattle.command_base.specs.MadeVerdict.{BesideVerdict}
 use Rattle.command_base.specs.declared.status.Status.{Status}
 use Rattle.command_base.specs.declared.status.Status.TheVariants as status
-use Rattle.cue_list_commands.specs.Accepted.{IsAccepted}
-use Rattle.cue_list_commands.specs.SideEnds.{SideEnds}
-use Rattle.cue_list_commands.specs.SideLists.{IsSideOf}
-use Rattle.cue_lists.specs.Listing.{Listing}
-use Rattle.frame_scheduler.specs.Planned.{Placement}
-use Rattle.cue_list_commands.specs.Output.{list_framing}
-use Rattle.insert_commands.specs.Captions.{captions_of}
-use Rattle.insert_commands.specs.Soundness.{HaveRate}
-use Rattle.packet_inserter.specs.Insertion.{IsInserted, packet_length}
+use Rattle.cue_list_commands.specs.Accepted.{IsRefused}
+use Rattle.cue_list_commands.specs.Output.{IsPlacedAs, PlacedList, framing_of}
+use Rattle.findings.specs.declared.finding.Kind45.TheVariants as kind
 use Rattle.frame_carrier.specs.Framing.{Framing}
-use Rattle.words_files.specs.FramesOf.{AreFramesOf}
-use Rattle.words_files.specs.Offences.{IsFileUnder, IsMalformed}
-use Rattle.words_reading.specs.Answers.{IsPastLimit}
-use Rattle.words_reading.specs.Causes.{words_limit}
-use Rattle.services_files.specs.CaptionChannel.{caption_channel}
-use Rattle.insert_commands.specs.InsertAnswer.{InsertAnswer, IsHalt}
-use Rattle.insert_commands.specs.InsertSteps.{halt_status}
+use Rattle.insert_commands.specs.Captions.{captions_of}
+use Rattle.insert_commands.specs.InsertedFile.{AreInserted, BringsFrame}
+use Rattle.insert_commands.specs.Soundness.{HaveRate, IsSoundInsertion}
 use Rattle.insert_commands.specs.declared.inserting.Halt.{Halt}
+use Rattle.insert_commands.specs.declared.inserting.Halt.TheVariants as halt
+use Rattle.packet_inserter.specs.Insertion.{IsInserted, packet_length}
+use Rattle.services_files.specs.CaptionChannel.{caption_channel}
+use Rattle.words_files.specs.FramesOf.{AreFramesOf}
+use Rattle.words_files.specs.Offences.{IsFileUnder}
+use Rattle.words_reading.specs.WordsVerdict.{WordsVerdict}
 
--- an insertion stops at none of these frames: they have the list's rate, and with the captions of its frame no packet would have more than
--- 255 bytes
-pub record CanCarry (list : Framing) (frames : List Frame) : Type 0 where
-  pub rates : HaveRate list.rate frames
-  pub fit : (earlier behind : List Frame) (old new : Frame) → frames ≡ earlier ++ old ∷ behind
-      → IsInserted (captions_of list (length earlier)) old new → packet_length new ≤ 255
-
--- the words are a file within the limit, of such frames, as many as the list has, at least
-pub record CanTake (list : Listing) (placed : Placement) (bytes : List ℕ) : Type 0 where
+-- this text stands for the longest words file with which these bytes begin, with captions, and its frames have the list's rate
+pub record SaysInserted (list : Framing) (bytes text : List ℕ) : Type 0 where
   pub frames : List Frame
-  pub file : IsFileUnder caption_channel frames bytes
-  pub within : length bytes ≤ words_limit
-  pub enough : list.frames ≤ length frames
-  pub carry : CanCarry (list_framing list placed) frames
+  pub frames_are : AreFramesOf caption_channel frames bytes
+  pub inserted : AreInserted (captions_of list) frames frames_are.file text
+  pub rates : HaveRate list.rate frames
 
--- such words are answered Ok, or want of memory
-abbrev pub InsertedIsAnswered : Type 0
-InsertedIsAnswered = (text bytes : List ℕ) (list : Listing) (placed : Placement) (side later : SideEnds) (old new : Ends) (answer : Status)
-    → IsAccepted text list placed → CanTake list placed bytes → IsSideOf text side later → IsReadOf bytes old new
-    → InsertAnswer side later old new answer → (answer ≡ status.Ok) ⊎ (answer ≡ status.Memory)
+-- why an insertion stops at a frame that comes behind others: it has another rate than the list; or it has the list's, and its packet would
+-- have more than 255 bytes with the list's captions
+abbrev pub IsHalt : Framing → Halt → List Frame → Frame → Type 0
+IsHalt list (halt.Found finding) frames last =
+    (last.rate ≢ list.rate) × (finding ≡ record { frame = length frames; kind = kind.WrongRate list.rate last.rate })
+IsHalt list halt.Packet frames last =
+    (last.rate ≡ list.rate) × ((new : Frame) × IsInserted (captions_of list (length frames)) last new × (255 < packet_length new))
 
--- malformed words within the limit, at none of whose frames an insertion stops, are answered with their one refusal, or want of memory
-abbrev pub MalformedIsAnswered : Type 0
-MalformedIsAnswered = (text bytes : List ℕ) (list : Listing) (placed : Placement) (frames : List Frame) (refusal : Refusal) (side later : SideEnds) (old new : Ends) (answer : Status)
-    → IsAccepted text list placed → AreFramesOf caption_channel frames bytes → CanCarry (list_framing list placed) frames → IsMalformed caption_channel bytes refusal
-    → length bytes ≤ words_limit → IsSideOf text side later → IsReadOf bytes old new → InsertAnswer side later old new answer
-    → (answer ≡ status.Malformed (Byte refusal.place) refusal.why) ⊎ (answer ≡ status.Memory)
+-- the bytes are a words file that ends with the packet of a frame at which an insertion stops so, and this text stands for the file before it
+pub record HaltsInserting (list : Framing) (why : Halt) (bytes text : List ℕ) : Type 0 where
+  pub frames : List Frame
+  pub last : Frame
+  pub is_file : IsFileUnder caption_channel (frames ++ last ∷ []) bytes
+  pub file : List ℕ
+  pub packet : List ℕ
+  pub spelled : bytes ≡ file ++ packet
+  pub brings : BringsFrame last packet
+  pub inserted : AreInserted (captions_of list) frames file text
+  pub rates : HaveRate list.rate frames
+  pub is : IsHalt list why frames last
 
--- a words file within the limit with fewer frames than the list, at none of which an insertion stops, is answered with their number, or want
--- of memory
-abbrev pub ShortIsAnswered : Type 0
-ShortIsAnswered = (text bytes : List ℕ) (list : Listing) (placed : Placement) (frames : List Frame) (side later : SideEnds) (old new : Ends) (answer : Status)
-    → IsAccepted text list placed → IsFileUnder caption_channel frames bytes → CanCarry (list_framing list placed) frames → length frames < list.frames
-    → length bytes ≤ words_limit → IsSideOf text side later → IsReadOf bytes old new → InsertAnswer side later old new answer
-    → (answer ≡ status.Short (length frames)) ⊎ (answer ≡ status.Memory)
+-- the whole file has captions, and is sound: it shows what the list authors; or it has too few frames
+abbrev pub InsertEnd : PlacedList → Status → List ℕ → List ℕ → Type 0
+InsertEnd made status.Ok input text =
+    (says : SaysInserted (framing_of made) input text) × IsFileUnder caption_channel says.frames input
+    × (made.list.frames ≤ length says.frames) × IsSoundInsertion made.list made.placed says.frames text
+InsertEnd made (status.Short count) input text =
+    (says : SaysInserted (framing_of made) input text) × IsFileUnder caption_channel says.frames input
+    × (count ≡ length says.frames) × (count < made.list.frames)
+InsertEnd made _ input text = ⊥
 
--- words within the limit with a frame at which an insertion stops, and at none before it, are answered with the reason, whatever follows it:
--- the first frame of another rate, or the first whose packet would be too long; or want of memory
-abbrev pub HaltIsAnswered : Type 0
-HaltIsAnswered = (text bytes : List ℕ) (list : Listing) (placed : Placement) (frames behind : List Frame) (last : Frame) (why : Halt) (side later : SideEnds) (old new : Ends)
-    (answer : Status) → IsAccepted text list placed → AreFramesOf caption_channel ((frames ++ last ∷ []) ++ behind) bytes → CanCarry (list_framing list placed) frames
-    → IsHalt (list_framing list placed) why frames last → length bytes ≤ words_limit → IsSideOf text side later → IsReadOf bytes old new
-    → InsertAnswer side later old new answer → (answer ≡ halt_status why) ⊎ (answer ≡ status.Memory)
+-- or the insertion stops at a frame
+abbrev pub InsertHalts : PlacedList → Status → List ℕ → List ℕ → Type 0
+InsertHalts made (status.Differs finding) judged text = HaltsInserting (framing_of made) (halt.Found finding) judged text
+InsertHalts made (status.Limit limit.Packet) judged text = HaltsInserting (framing_of made) halt.Packet judged text
+InsertHalts made _ judged text = ⊥
 
--- words past the limit, where an insertion stops at none of the frames within it, are malformed where a word within it offends, and else pass
--- it, or memory is wanting
-abbrev pub LongIsAnswered : Type 0
-LongIsAnswered = (text bytes : List ℕ) (list : Listing) (placed : Placement) (frames : List Frame) (side later : SideEnds) (old new : Ends) (answer : Status)
-    → IsAccepted text list placed → AreFramesOf caption_channel frames (take words_limit bytes) → CanCarry (list_framing list placed) frames → words_limit < length bytes
-    → IsSideOf text side later → IsReadOf bytes old new → InsertAnswer side later old new answer → IsPastLimit bytes answer ⊎ (answer ≡ status.Memory)
+abbrev pub InsertWords : PlacedList → List ℕ → Status → List ℕ → Type 0
+InsertWords made = WordsVerdict (InsertEnd made) (SaysInserted (framing_of made)) (InsertHalts made)
+
+-- `insert`
+abbrev pub InsertVerdict : List ℕ → List ℕ → Status → List ℕ → Type 0
+InsertVerdict = BesideVerdict IsPlacedAs IsRefused InsertWords

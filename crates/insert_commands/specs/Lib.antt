@@ -1,7 +1,7 @@
 pub mod Captions
 pub mod InsertedFile
 pub mod Soundness
-pub mod InsertAnswer
-pub mod InsertSteps
 pub mod InsertVerdict
+pub mod InsertSteps
+pub mod CanCarry
 pub mod ListCaptions

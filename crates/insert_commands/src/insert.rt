@@ -1,6 +1,8 @@
 ghost use Rattle.command_base.specs.Ends.{ends};
-ghost use Rattle.cue_list_commands.specs.SideEnds.{side_ends};
-ghost use Rattle.insert_commands.specs.InsertAnswer.{InsertAnswer};
+ghost use Rattle.command_base.specs.SideEnds.{side_ends};
+ghost use Rattle.cue_list_commands.specs.Output.{IsPlacedAs};
+ghost use Rattle.insert_commands.specs.InsertVerdict.{InsertVerdict};
+ghost use Rattle.command_base.specs.Realises.{RealisesBeside};
 
 use crate::inserting::Inserting;
 use cc_base::{Sink, Source};
@@ -21,7 +23,8 @@ pub fn run_insert<M: Source, S: Source, O: Sink>(
     side: &mut S,
     out: &mut O,
 ) -> Status
-    ensures { InsertAnswer (side_ends (S.left side.old) (S.faults side.old))
+    ensures { RealisesBeside IsPlacedAs InsertVerdict
+        (side_ends (S.left side.old) (S.faults side.old))
         (side_ends (S.left side.new) (S.faults side.new))
         (ends (M.left input.old) (M.faults input.old) (O.written out.old) (O.faults out.old))
         (ends (M.left input.new) (M.faults input.new) (O.written out.new)

@@ -6,7 +6,7 @@ ghost use Rattle.words_files.specs.FramesOf.{AreFramesOf};
 ghost use Rattle.services_files.specs.CaptionChannel.{caption_channel};
 ghost use Rattle.frame_scheduler.specs.Frames.{GivesFrom, frames_left};
 ghost use Rattle.frame_carrier.specs.Framing.{Framing, HasFraming};
-ghost use Rattle.insert_commands.specs.InsertAnswer.{HaltsInserting, SaysInserted};
+ghost use Rattle.insert_commands.specs.InsertVerdict.{HaltsInserting, SaysInserted};
 ghost use Rattle.insert_commands.specs.InsertSteps.{HasJudged, HasLastFrame, HasReadWords, Replaces, halt_status};
 ghost use Rattle.insert_commands.specs.ListCaptions.{GivesCaptions};
 

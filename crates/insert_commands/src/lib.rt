@@ -7,4 +7,3 @@ mod captions;
 mod insert;
 pub mod inserted_laws;
 mod inserting;
-pub mod laws;

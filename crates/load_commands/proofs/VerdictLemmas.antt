@@ -1,23 +1,45 @@
--- The verdict of `load`: where the output's count of faults didn't rise, it answers Ok, or memory ran out; and where it rose, the answer
--- says so.
-use Rattle.std.proofs.Common.{◌≡◌, ◌⊎◌, ℕ, inl, inr, refl}
-use Rattle.cc_base.specs.Streams.{Rose}
-use Rattle.command_base.specs.Counts.{TellsFaults}
-use Rattle.command_base.specs.Ends.{Ends}
-use Rattle.command_base.proofs.CountLemmas.{same_told, steady_told, write_told}
+-- Of a number of captions `load` makes one status, and a run that puts its lines realises it.
+use Rattle.std.proofs.Common.{◌≡◌, ◌∙◌, ◌≤◌, length, refl, sym, ℕ, List, [], Option, Some}
+use Rattle.cc_base.specs.Streams.{Puts, Rose}
+use Rattle.cc_base.specs.declared.streams.Put.TheVariants as put
+use Rattle.command_base.specs.Ends.{ends}
+use Rattle.command_base.specs.Exact.{HasVerdict, IsFault, IsOne}
 use Rattle.command_base.specs.declared.status.Status.{Status}
 use Rattle.command_base.specs.declared.status.Status.TheVariants as status
-use Rattle.load_commands.specs.LoadAnswer.{LoadAnswer}
+use Rattle.load_commands.specs.LoadOutput.{IsSummaryOf, change_count, summary_text}
+use Rattle.load_commands.specs.LoadList.{load_list, most_load}
+use Rattle.load_commands.proofs.LoadRoomLemmas.{list_placed}
+use Rattle.cue_list_commands.specs.Output.{built_packets, list_framing}
+use Rattle.frame_carrier.specs.Framing.{words_of}
+use Rattle.load_commands.specs.LoadVerdict.{LoadVerdict}
+use Rattle.load_commands.specs.declared.summary.Summary.{Summary}
+use Rattle.command_base.specs.Realises.{RealisesLeaving}
 
-pub load_answered : (count : ℕ) (old new : Ends) (answer : Status) → (Rose old.write_faults new.write_faults → ⊥) → LoadAnswer count old new answer
-    → (answer ≡ status.Ok) ⊎ (answer ≡ status.Memory)
-load_answered count old new status.Ok steady is = inl refl
-load_answered count old new status.WriteFault steady is = absurd (steady is.2)
-load_answered count old new status.Memory steady is = inr refl
-load_answered count old new _ steady is = absurd is
+load_ok : (count : ℕ) (input : List ℕ) (answer : Status) (text : List ℕ) → (IsFault answer → ⊥) → LoadVerdict count input answer text → answer ≡ status.Ok
+load_ok count input status.Ok text plain is = refl
+load_ok count input status.WriteFault text plain is = absurd (plain tt)
+load_ok count input _ text plain is = absurd is
 
-pub load_told : (count : ℕ) (old new : Ends) (answer : Status) → LoadAnswer count old new answer → TellsFaults old new answer
-load_told count old new status.Ok is = steady_told old new status.Ok is.1.reads is.1.writes
-load_told count old new status.WriteFault is = write_told old new is.1
-load_told count old new status.Memory is = same_told old new status.Memory is
-load_told count old new _ is = absurd is
+pub load_one : (count : ℕ) → IsOne (λ aside. LoadVerdict count)
+load_one count aside input one other text more plain told is at = load_ok count input one text plain is ∙ sym (load_ok count input other more told at)
+
+pub load_done : (count reads writes still : ℕ) (old new : Option (List ℕ)) (summary : Summary) → IsSummaryOf count summary → Puts old new put.Done (summary_text summary) → still ≡ writes
+    → RealisesLeaving (LoadVerdict count) (ends (Some []) reads old writes) (ends (Some []) reads new still) status.Ok
+load_done count reads writes still old new summary is puts kept =
+    ((refl, record { aside = refl; reads = refl; writes = kept }, (refl, (summary_text summary, (summary, is, refl), puts))), λ memory. cc)
+
+pub load_failed : (count reads writes still : ℕ) (old new : Option (List ℕ)) (summary : Summary) → IsSummaryOf count summary → Puts old new put.Failed (summary_text summary)
+    → Rose writes still → RealisesLeaving (LoadVerdict count) (ends (Some []) reads old writes) (ends (Some []) reads new still) status.WriteFault
+load_failed count reads writes still old new summary is puts rose = ((refl, refl, rose, (summary_text summary, (summary, is, refl), puts)), λ memory. cc)
+
+pub every_load : (count : ℕ) → 1 ≤ count → count ≤ most_load → HasVerdict (λ aside. LoadVerdict count)
+every_load count some most aside input bytes =
+    let (placed, placement) = list_placed count some most in
+    let summary : Summary = record {
+      cues = count;
+      frames = (load_list count).frames;
+      bytes = length (words_of (list_framing (load_list count) placed));
+      changes = change_count [] (built_packets (load_list count) placed);
+    } in
+    let is : IsSummaryOf count summary = record { placed = placed; placement = placement; cues = refl; frames = refl; bytes = refl; changes = refl } in
+    (status.Ok, summary_text summary, λ fault. fault, (summary, is, refl))

@@ -1,5 +1,5 @@
 pub mod LoadList
 pub mod LoadLaws
 pub mod LoadOutput
-pub mod LoadAnswer
+pub mod LoadVerdict
 pub mod Receiving

@@ -1,6 +1,7 @@
-ghost use Rattle.std.specs.Prelude.{◌≤◌, ℕ, List, Option, IfOk};
+ghost use Rattle.std.specs.Prelude.{◌≤◌, ℕ, [], Some, IfOk};
 ghost use Rattle.command_base.specs.Ends.{ends};
-ghost use Rattle.load_commands.specs.LoadAnswer.{LoadAnswer};
+ghost use Rattle.command_base.specs.Realises.{RealisesLeaving};
+ghost use Rattle.load_commands.specs.LoadVerdict.{LoadVerdict};
 ghost use Rattle.load_commands.specs.LoadOutput.{IsSummaryOf};
 ghost use Rattle.load_commands.specs.LoadList.{most_load};
 
@@ -21,9 +22,9 @@ use std::alloc::{AllocError, Global};
 pub fn run_load<O: Sink>(alloc: Global, count: u32, out: &mut O) -> Status
     requires some { 1 ≤ count }
     requires most { count ≤ most_load }
-    ensures { (left : Option (List ℕ)) (read_faults : ℕ) → LoadAnswer count
-        (ends left read_faults (O.written out.old) (O.faults out.old))
-        (ends left read_faults (O.written out.new) (O.faults out.new)) result }
+    ensures { (reads : ℕ) → RealisesLeaving (LoadVerdict count)
+        (ends (Some []) reads (O.written out.old) (O.faults out.old))
+        (ends (Some []) reads (O.written out.new) (O.faults out.new)) result }
 {
     let Ok(summary) = load(alloc, count) else {
         return Status::Memory;

@@ -49,7 +49,7 @@ use Rattle.mcc_commands.proofs.ByteLemmas.{both_bytes, item_read_bytes, open_byt
 use Rattle.mcc_commands.proofs.MakingLemmas.{words_with_one}
 use Rattle.mcc_commands.proofs.ImportedOffenceLemmas.{file_state, offends_stays, word_stays}
 use Rattle.mcc_commands.proofs.StandingLemmas.{came_file, packets_of}
-use Rattle.mcc_commands.specs.ImportVerdict.{EveryInputIsOne, IsOne}
+use Rattle.mcc_commands.specs.EveryInput.{EveryInputIsOne, IsOneOfThese}
 
 -- a packet's line ended: its words are within the limits with those of the packets before, or a limit is passed with it
 pub data Done (front : List ℕ) (placed : TimedPackets) (one : ℕ × Payload) (words : List ℕ) : Type 0 where
@@ -208,7 +208,7 @@ next before s t byte g fine is =
 
 -- a byte with which no file goes on
 byte_refused : (before rest : List ℕ) (s : State) (byte : ℕ) (o : Offence) (g : Goes before s) → IsUnoffending caption_channel (words_with s (item_in s.phase s.payload byte))
-    → take_byte s byte ≡ Err o → IsOne ((before ++ byte ∷ []) ++ rest)
+    → take_byte s byte ≡ Err o → IsOneOfThese ((before ++ byte ∷ []) ++ rest)
 byte_refused before rest s byte o g fine is =
     let front = before ++ byte ∷ [] in
     let refusal : Refusal = record { place = length before - o.back; why = o.why } in
@@ -218,13 +218,13 @@ byte_refused before rest s byte o g fine is =
     inr (inl (refusal, inl (offends_stays front rest refusal (inr (byte_offends before byte refusal o.back refl first, no_word_more before s byte g.reads g.no_word fine)))))
 
 -- the bytes end
-end_done : (before : List ℕ) (placed : TimedPackets) (one : ℕ × Payload) (words : List ℕ) → IsMccFile (placed ++ one ∷ []) before → Done before placed one words → IsOne before
+end_done : (before : List ℕ) (placed : TimedPackets) (one : ℕ × Payload) (words : List ℕ) → IsMccFile (placed ++ one ∷ []) before → Done before placed one words → IsOneOfThese before
 end_done before placed one words file (within longer now less) =
     inl (longer, record { placed = placed ++ one ∷ []; file = file; frames = now.frames; words = now.under; within = less })
 end_done before placed one words file (passed which p) =
     inr (inr (which, record { front = before; more = []; words = words; spelled = sym (append-nil before); ended = inr refl; passes = p }))
 
-at_end : (before : List ℕ) (s : State) (may : Option Bool) → Goes before s → ends s ≡ may → IsOne before
+at_end : (before : List ℕ) (s : State) (may : Option Bool) → Goes before s → ends s ≡ may → IsOneOfThese before
 at_end before s None g none =
     let refusal : Refusal = record { place = length before; why = why_in s.phase } in
     let first : IsFirstOffenceOfForm before refusal =
@@ -240,25 +240,25 @@ at_end before s (Some true) g may =
 
 -- bytes one by one
 step_one : (before rest : List ℕ) (s : State) (byte : ℕ) (g : Goes before s) → IsUnoffending caption_channel (words_with s (item_in s.phase s.payload byte))
-    → ((t : State) → Goes (before ++ byte ∷ []) t → IsOne ((before ++ byte ∷ []) ++ rest)) → (found : Result State Offence) → take_byte s byte ≡ found
-    → IsOne ((before ++ byte ∷ []) ++ rest)
+    → ((t : State) → Goes (before ++ byte ∷ []) t → IsOneOfThese ((before ++ byte ∷ []) ++ rest)) → (found : Result State Offence) → take_byte s byte ≡ found
+    → IsOneOfThese ((before ++ byte ∷ []) ++ rest)
 step_one before rest s byte g fine on (Err o) is = byte_refused before rest s byte o g fine is
 step_one before rest s byte g fine on (Ok t) is = by_next (next before s t byte g fine is)
   where
-    by_next : Next (before ++ byte ∷ []) t → IsOne ((before ++ byte ∷ []) ++ rest)
+    by_next : Next (before ++ byte ∷ []) t → IsOneOfThese ((before ++ byte ∷ []) ++ rest)
     by_next (goes more) = on t more
     by_next (stops which words p ended) =
         inr (inr (which, record { front = before ++ byte ∷ []; more = rest; words = words; spelled = refl; ended = inl ended; passes = p }))
 
 one_by : (before rest : List ℕ) (s : State) (byte : ℕ) (g : Goes before s) → Judged before s byte
-    → ((t : State) → Goes (before ++ byte ∷ []) t → IsOne ((before ++ byte ∷ []) ++ rest)) → IsOne ((before ++ byte ∷ []) ++ rest)
+    → ((t : State) → Goes (before ++ byte ∷ []) t → IsOneOfThese ((before ++ byte ∷ []) ++ rest)) → IsOneOfThese ((before ++ byte ∷ []) ++ rest)
 one_by before rest s byte g (inl fine) on = step_one before rest s byte g fine on (take_byte s byte) refl
 one_by before rest s byte g (inr (refusal, w)) on = inr (inl (refusal, inl (inl (word_stays (before ++ byte ∷ []) rest refusal w))))
 
-each_from : (rest before : List ℕ) (s : State) → Goes before s → IsOne (before ++ rest)
-each_from [] before s g = subst IsOne (sym (append-nil before)) (at_end before s (ends s) g refl)
+each_from : (rest before : List ℕ) (s : State) → Goes before s → IsOneOfThese (before ++ rest)
+each_from [] before s g = subst IsOneOfThese (sym (append-nil before)) (at_end before s (ends s) g refl)
 each_from (byte ∷ rest) before s g =
-    subst IsOne (append_assoc before (byte ∷ []) rest)
+    subst IsOneOfThese (append_assoc before (byte ∷ []) rest)
     (one_by before rest s byte g (judged before s byte (item_in s.phase s.payload byte) refl g) (λ t more. each_from rest (before ++ byte ∷ []) t more))
 
 pub every_input : EveryInputIsOne

@@ -1,51 +1,37 @@
--- Words whose packets are exported are answered Ok, and others with just what stands against them.
-use Rattle.std.proofs.Common.{◌≡◌, ◌∙◌, ◌<◌, ◌⊎◌, ◌++◌, ap, append_assoc, append-nil, arith, false, inl, inr, length, length-append, refl, subst, sym, take, true, ℕ, Bool, List, [], ◌∷◌}
+-- Of words `export-mcc` makes one status.
+use Rattle.std.proofs.Common.{◌≡◌, ◌∙◌, ◌⊎◌, ◌++◌, ap, append_assoc, append-nil, arith, false, inl, inr, length, length-append, refl, subst, sym, true, ℕ, Bool, List, [], ◌∷◌}
 use Rattle.std.specs.Prelude.{nat_le}
 use Rattle.std.specs.List.{All}
-use Rattle.std.proofs.lemmas.List.Elements.{All-cons, All-head, All-nil, All-tail}
+use Rattle.std.proofs.lemmas.List.Elements.{All-head, All-tail}
 use Rattle.anc_words.proofs.WordsFileLemmas.{IsWordsFile-append, IsWordsFile-one}
 use Rattle.anc_words.specs.Packets.{AncillaryPacket, user_bytes}
-use Rattle.anc_words.specs.Words.{AreWords}
 use Rattle.anc_words.specs.WordsFiles.{IsWordsFile}
 use Rattle.cc_base.specs.declared.limit_of.LimitOf.TheVariants as limit
 use Rattle.cc_base.specs.declared.rate.Rate.{Rate}
-use Rattle.cc_base.specs.declared.refusal.Refusal.{Refusal}
-use Rattle.cc_base.specs.declared.streams.Put.TheVariants as put
 use Rattle.cdp_packets.proofs.PacketLemmas.{packet_once}
 use Rattle.cdp_packets.specs.Packets.{Frame}
-use Rattle.command_base.specs.Counts.{IsReadOf, TellsFaults}
-use Rattle.command_base.specs.Ends.{Ends}
-use Rattle.command_base.specs.declared.status.Place.TheVariants.{Byte}
 use Rattle.command_base.specs.declared.status.Status.{Status}
 use Rattle.command_base.specs.declared.status.Status.TheVariants as status
 use Rattle.findings.specs.declared.finding.Finding.{Finding}
 use Rattle.findings.specs.declared.finding.Kind45.{Kind45}
 use Rattle.findings.specs.declared.finding.Kind45.TheVariants as kind
+use Rattle.command_base.specs.Exact.{IsOne}
+use Rattle.words_reading.proofs.FrameFrontLemmas.{words_bytes}
+use Rattle.words_reading.proofs.OneLemmas.{words_one}
 use Rattle.words_reading.proofs.PacketEndLemmas.{file_under}
 use Rattle.services_files.specs.CaptionChannel.{caption_channel}
 use Rattle.time_codes.specs.declared.counting.Counting.{Counting}
-use Rattle.words_files.proofs.EndingLemmas.{file_has_no_offence, offence_stays}
 use Rattle.words_files.proofs.FrameLemmas.{carry_once}
 use Rattle.words_files.proofs.FramesOfLemmas.{carry_front, file_front}
 use Rattle.words_files.proofs.WordLemmas.{front_of}
 use Rattle.words_files.specs.Frames.{CarryFrames}
 use Rattle.words_files.specs.Frames.CarryFrames.{caption, foreign}
 use Rattle.words_files.specs.FramesOf.{AreFramesOf}
-use Rattle.words_files.specs.Offences.{FirstOffendingWord, IsFileUnder}
-use Rattle.words_reading.proofs.EarlyLemmas.{file_answers, file_told, long_answers, malformed_answers, unless}
-use Rattle.words_reading.proofs.KnownLemmas.{known_judged, known_whole, long_front, within_passes}
-use Rattle.words_reading.specs.Answers.{StopsOwn}
-use Rattle.words_reading.specs.Causes.{IsAnyhow, IsRefusedWith, IsWholeFile, words_limit}
-use Rattle.words_reading.specs.Reading.{Stops}
-use Rattle.mcc_commands.specs.ExportMcc.{ExportMccAnswer, HaltsMcc, SaysMcc, StopsBehind}
+use Rattle.words_files.specs.Offences.{IsFileUnder}
+use Rattle.mcc_commands.specs.ExportMcc.{ExportMccEnd, ExportMccVerdict, HaltsMcc, SaysMcc, StopsBehind}
 use Rattle.mcc_commands.specs.ExportSteps.{HasRate}
 use Rattle.mcc_commands.specs.Exported.{AreExportedAsMcc, Brings, HaveOneRate, IsFoundAtPacket, IsOfBytes, IsPastDay, IsUnlikeFirst, IsWrongRate, StopsAtPacket, counts_rate}
-use Rattle.mcc_commands.specs.ExportVerdict.{FileIsExported, LongIsAnswered, MalformedIsAnswered, StopIsAnswered}
 use Rattle.mcc_commands.specs.declared.start.Start.{Start}
-
--- where a count of faults is greater than before, that is the answer
-pub mcc_told : (start : Start) (old new : Ends) (answer : Status) → ExportMccAnswer start old new answer → TellsFaults old new answer
-mcc_told start old new answer answered = file_told (SaysMcc start) (SaysMcc start) (HaltsMcc start) old new answer answered
 
 -- what holds of all items holds of one
 all_at : {A : Type 0} (P : A → Type 0) (front : List A) (item : A) (more : List A) → All P (front ++ item ∷ more) → P item
@@ -121,16 +107,7 @@ module _ (start : Start) (why : Status) (front : List ℕ) (stops : StopsBehind 
       not_exported start before behind.rest stops.last stops.frames frames why stops.is_file.file.carried
       (subst (λ ps. CarryFrames ps frames) parts is_file.file.carried) (subst (λ ps. AreExportedAsMcc start ps frames) parts fit) stops.is
 
--- words are bytes
-words_bytes : (bytes words : List ℕ) → AreWords bytes words → All (λ b. b < 256) bytes
-words_bytes [] [] are = All-nil (λ b. b < 256)
-words_bytes [] (word ∷ words) are = absurd are
-words_bytes (high ∷ []) words are = absurd are
-words_bytes (high ∷ low ∷ bytes) [] are = absurd are
-words_bytes (high ∷ low ∷ bytes) (word ∷ words) (is, are) =
-    let small = is.zeros in
-    All-cons (λ b. b < 256) high (low ∷ bytes) (omega arith) (All-cons (λ b. b < 256) low bytes is.byte (words_bytes bytes words are))
-
+-- the bytes at whose end an export stops
 module _ (start : Start) (why : Status) (front : List ℕ) (stops : StopsBehind start why front) where
   -- they are a file of frames
   front_file : (frames : List Frame) × IsFileUnder caption_channel frames front
@@ -139,28 +116,13 @@ module _ (start : Start) (why : Status) (front : List ℕ) (stops : StopsBehind 
       file_under (stops.is_file.file.packets ++ stops.last ∷ []) front file stops.unoffending (words_bytes front file.words file.spelled)
 
   -- so no bytes whose packets are exported begin with them
-  stop_in_words : (more bytes : List ℕ) (frames : List Frame) (frames_are : AreFramesOf caption_channel frames bytes) → bytes ≡ front ++ more
+  pub stop_in_words : (more bytes : List ℕ) (frames : List Frame) (frames_are : AreFramesOf caption_channel frames bytes) → bytes ≡ front ++ more
       → AreExportedAsMcc start frames_are.is_file.file.packets frames → ⊥
   stop_in_words more bytes frames frames_are spelled fit =
       let (others, under) = front_file in
       let few = frames_are.longest others front more spelled under in
       let (rest, longer) = front_of front frames_are.file more frames_are.behind (sym spelled ∙ frames_are.spelled) few in
       stop_in_file start why front stops rest frames_are.file frames frames_are.is_file longer fit
-
-  -- nor with a word of them that offends
-  stop_offends : (judged more rest : List ℕ) (frames : List Frame) (refusal : Refusal) (frames_are : AreFramesOf caption_channel frames judged) → front ++ more ≡ judged ++ rest
-      → AreExportedAsMcc start frames_are.is_file.file.packets frames → FirstOffendingWord caption_channel judged refusal → ⊥
-  stop_offends judged more rest frames refusal frames_are spelled fit offence = by_size (nat_le (length front) (length judged)) refl
-    where
-      by_size : (test : Bool) → nat_le (length front) (length judged) ≡ test → ⊥
-      by_size true within =
-          let (behind, longer) = front_of front judged more rest spelled (grind (arith, within)) in
-          stop_in_words behind judged frames frames_are longer fit
-      by_size false past =
-          let (behind, longer) = front_of judged front rest more (sym spelled) (grind (arith, past)) in
-          let (others, under) = front_file in
-          file_has_no_offence caption_channel others front refusal under
-          (subst (λ l. FirstOffendingWord caption_channel l refusal) (sym longer) (offence_stays caption_channel judged behind refusal offence))
 
 -- the last of frames of one rate has a rate that is expected
 last_has : (count : Counting) (frames : List Frame) (last : Frame) → HaveOneRate count (frames ++ last ∷ []) → HasRate count frames last.rate
@@ -270,7 +232,7 @@ one_within start one other front back more a b spelled =
           (subst (λ ps. AreExportedAsMcc start ps b.frames) parts b.fit) a.is)
     ]
 
-one_stop : (start : Start) (one other : Status) (front back more rest : List ℕ) → StopsBehind start one front → StopsBehind start other back → front ++ more ≡ back ++ rest
+pub one_stop : (start : Start) (one other : Status) (front back more rest : List ℕ) → StopsBehind start one front → StopsBehind start other back → front ++ more ≡ back ++ rest
     → one ≡ other
 one_stop start one other front back more rest a b spelled = by_size (nat_le (length front) (length back)) refl
   where
@@ -282,77 +244,23 @@ one_stop start one other front back more rest a b spelled = by_size (nat_le (len
         let (behind, longer) = front_of back front rest more (sym spelled) (grind (arith, past)) in
         sym (one_within start other one back front behind b a longer)
 
--- a run stopped for a reason of its own
-module _ (start : Start) (bytes : List ℕ) (old new : Ends) (answer : Status) (read : IsReadOf bytes old new) (own : StopsOwn (HaltsMcc start) old new answer) where
-  own_judged : (more : List ℕ) × (bytes ≡ own.2.judged ++ more)
-  own_judged =
-      let (rest, is) = known_judged old.left new.left bytes own.2.judged own.2.unjudged read.left own.2.taken in
-      (own.2.unjudged ++ rest, is)
+mcc_ends : (start : Start) (answer : Status) (input text : List ℕ) → ExportMccEnd start answer input text
+    → (answer ≡ status.Ok) × ((frames : List Frame) × IsFileUnder caption_channel frames input × SaysMcc start input text)
+mcc_ends start status.Ok input text ends = (refl, ends)
+mcc_ends start _ input text ends = absurd ends
 
-  own_file : (frames : List Frame) (is_file : IsFileUnder caption_channel frames bytes) → AreExportedAsMcc start is_file.file.packets frames → ⊥
-  own_file frames is_file fit =
-      let (more, is) = own_judged in
-      stop_in_file start answer own.2.judged own.2.says.at more bytes frames is_file is fit
+-- no bytes that are exported begin with such at which an export stops
+mcc_halts : (start : Start) (judged rest : List ℕ) (answer : Status) (text more : List ℕ) → HaltsMcc start answer judged text → SaysMcc start (judged ++ rest) more → ⊥
+mcc_halts start judged rest answer text more halts says =
+    stop_in_words start answer judged halts.at rest (judged ++ rest) says.frames says.frames_are refl says.mcc.fit
 
-  own_words : (frames : List Frame) (frames_are : AreFramesOf caption_channel frames bytes) → AreExportedAsMcc start frames_are.is_file.file.packets frames → ⊥
-  own_words frames frames_are fit =
-      let (more, is) = own_judged in
-      stop_in_words start answer own.2.judged own.2.says.at more bytes frames frames_are is fit
-
-  own_stop : (front more : List ℕ) (stop : Status) → StopsBehind start stop front → bytes ≡ front ++ more → answer ≡ stop
-  own_stop front more stop stops spelled =
-      let (rest, is) = own_judged in
-      one_stop start answer stop own.2.judged front rest more own.2.says.at stops (sym is ∙ spelled)
-
--- the verdicts
-pub file_exported : FileIsExported
-file_exported start bytes frames is_file old new answer fit within read answered =
-    unless (λ own. own_file start bytes old new answer read own frames is_file fit)
-    (file_answers (SaysMcc start) (SaysMcc start) (HaltsMcc start) bytes frames old new answer is_file within read answered)
-
-pub malformed_answered : MalformedIsAnswered
-malformed_answered start bytes frames frames_are refusal old new answer fit malformed within read answered =
-    unless (λ own. own_words start bytes old new answer read own frames frames_are fit)
-    (malformed_answers (SaysMcc start) (SaysMcc start) (HaltsMcc start) bytes refusal old new answer malformed within read answered)
-
--- bytes with a packet at which an export stops aren't read as bytes of exported packets
-read_past : (start : Start) (bytes front more : List ℕ) (stop : Status) (old new : Ends) → StopsBehind start stop front → bytes ≡ front ++ more → IsReadOf bytes old new
-    → Stops (SaysMcc start) (IsWholeFile old.left) put.Done old new → ⊥
-read_past start bytes front more stop old new stops spelled read done =
-    let same = known_whole old.left bytes done.judged read.left done.cause.0.0 in
-    stop_in_words start stop front stops more done.judged done.says.frames done.says.frames_are (sym same ∙ spelled) done.says.mcc.fit
-
-refused_past : (start : Start) (bytes front more : List ℕ) (stop : Status) (refusal : Refusal) (old new : Ends) → StopsBehind start stop front → bytes ≡ front ++ more
-    → IsReadOf bytes old new → Stops (SaysMcc start) (IsRefusedWith refusal old.left) put.Done old new → ⊥
-refused_past start bytes front more stop refusal old new stops spelled read done =
-    let (rest, is) = known_judged old.left new.left bytes done.judged done.unjudged read.left done.taken in
-    elim done.cause [
-      | inl offence ↦
-          stop_offends start stop front stops done.judged more (done.unjudged ++ rest) done.says.frames refusal done.says.frames_are (sym spelled ∙ is) done.says.mcc.fit offence
-      | inr cut ↦
-          let same = known_whole old.left bytes done.judged read.left cut.0.0 in
-          stop_in_words start stop front stops more done.judged done.says.frames done.says.frames_are (sym same ∙ spelled) done.says.mcc.fit
-    ]
-
-pub stop_answered : StopIsAnswered
-stop_answered start bytes front more stop status.Ok old new stops spelled within read answered =
-    absurd (read_past start bytes front more stop old new stops spelled read answered.1)
-stop_answered start bytes front more stop status.Memory old new stops spelled within read answered = inr refl
-stop_answered start bytes front more stop status.ReadFault old new stops spelled within read answered = absurd (read.reads answered.0)
-stop_answered start bytes front more stop status.WriteFault old new stops spelled within read (inl answered) = absurd (read.writes answered.1)
-stop_answered start bytes front more stop status.WriteFault old new stops spelled within read (inr answered) = absurd (read.writes answered.1)
-stop_answered start bytes front more stop (status.Limit limit.Bytes) old new stops spelled within read answered =
-    absurd (within_passes (SaysMcc start) bytes put.Done old new within read answered.1)
-stop_answered start bytes front more stop (status.Malformed (Byte place) why) old new stops spelled within read answered =
-    absurd (refused_past start bytes front more stop (record { place = place; why = why }) old new stops spelled read answered.1)
-stop_answered start bytes front more stop answer old new stops spelled within read answered =
-    inl (own_stop start bytes old new answer read answered front more stop stops spelled)
-
-pub long_answered : LongIsAnswered
-long_answered start bytes frames frames_are old new answer fit past read answered =
-    unless own_past (long_answers (SaysMcc start) (SaysMcc start) (HaltsMcc start) bytes old new answer past read answered)
-  where
-    own_past : StopsOwn (HaltsMcc start) old new answer → ⊥
-    own_past own =
-        let (more, is) = long_front (HaltsMcc start answer) IsAnyhow put.Done bytes old new read own.2 in
-        stop_in_words start answer own.2.judged own.2.says.at more (take words_limit bytes) frames frames_are is fit
+pub export_mcc_one : (start : Start) → IsOne (λ aside. ExportMccVerdict start)
+export_mcc_one start aside =
+    words_one (ExportMccEnd start) (SaysMcc start) (HaltsMcc start)
+    (λ answer input text ends. let (is, (frames, file, says)) = mcc_ends start answer input text ends in (frames, file))
+    (λ input one other text more first next. (mcc_ends start one input text first).0 ∙ sym (mcc_ends start other input more next).0)
+    (λ judged rest one other text more halts ends.
+    let (is, (frames, file, says)) = mcc_ends start other (judged ++ rest) more ends in
+    mcc_halts start judged rest one text more halts says)
+    (mcc_halts start)
+    (λ judged rest again left one other text more is halts stops. one_stop start one other judged again rest left halts.at stops.at is)

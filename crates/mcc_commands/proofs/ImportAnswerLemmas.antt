@@ -1,259 +1,169 @@
--- What an import answers where no count of faults rose.
-use Rattle.std.proofs.Common.{◌≡◌, ℕ, ◌<◌, ◌≤◌, ◌⊎◌, inl, inr, List, [], ◌∷◌, ◌++◌, append_assoc, append-nil, length, length-append, take, refl, ap, sym, ◌∙◌, subst, arith}
-use Rattle.std.proofs.lemmas.Bool.{cases_lt}
-use Rattle.std.proofs.lemmas.List.{length-take}
-use Rattle.cc_base.specs.Streams.{Puts}
+-- What `import-mcc` answers where a file was read, or the reading of it stopped before.
+use Rattle.std.proofs.Common.{◌≡◌, ◌∙◌, ◌<◌, ◌≤◌, ◌++◌, ap, arith, inl, inr, length, length-append, refl, subst, sym, ℕ, List, [], Some}
+use Rattle.std.proofs.lemmas.List.{append-nil}
+use Rattle.std.specs.Io.KnownBytes.{Consumes}
 use Rattle.cc_base.specs.declared.limit_of.LimitOf.{LimitOf}
 use Rattle.cc_base.specs.declared.limit_of.LimitOf.TheVariants as limit
 use Rattle.cc_base.specs.declared.refusal.Refusal.{Refusal}
+use Rattle.cc_base.specs.declared.streams.Put.{Put}
 use Rattle.cc_base.specs.declared.streams.Put.TheVariants as put
-use Rattle.command_base.specs.Counts.{IsReadOf}
-use Rattle.command_base.specs.Ends.{Ends}
+use Rattle.command_base.specs.Ends.{Ends, IsSteady}
 use Rattle.command_base.specs.declared.status.Place.TheVariants.{Byte}
 use Rattle.command_base.specs.declared.status.Status.TheVariants as status
-use Rattle.mcc_files.proofs.Refused.{no_offence}
-use Rattle.scc_files.specs.Offences.{EndsLine}
-use Rattle.words_files.proofs.WordLemmas.{front_of}
-use Rattle.words_reading.proofs.KnownLemmas.{known_judged, known_whole, long_front, never_whole}
-use Rattle.words_reading.specs.Causes.{IsAnyhow, IsWholeInput, words_limit, PassesLimit}
-use Rattle.words_reading.specs.Reading.{Stops}
-use Rattle.mcc_commands.specs.ImportMcc.{HasEndedLine, EndsInput, RefusesAt}
+use Rattle.mcc_commands.specs.ImportMcc.{HaltsImport, ImportMccVerdict, RefusesAt, SaysImport, StopsAtLine}
+use Rattle.mcc_commands.specs.Importing.{EndsInput, HasEndedLine}
+use Rattle.cc_base.specs.Streams.{Rose}
 use Rattle.mcc_commands.specs.Imported.{IsMccImport, PassesAtPacket, SaysLines}
-use Rattle.mcc_commands.specs.Offences.{IsFirstOffence, IsMccCutShort, IsWithoutOffence, Offends}
-use Rattle.mcc_commands.proofs.LimitLemmas.{lines_pass_none, never_passed, one_import, one_limit}
-use Rattle.mcc_commands.proofs.ImportedOffenceLemmas.{no_import_offends, offends_stays, one_first}
-use Rattle.mcc_commands.specs.ImportVerdict.{FileIsImported, FirstOffenceIsAnswered, LimitIsAnswered, LongIsAnswered, NoLinePasses, OthersAreRefused, PassesWithin, RefusalsAreFirst}
+use Rattle.mcc_commands.specs.Offences.{IsMccCutShort, IsWithoutOffence}
+use Rattle.words_reading.proofs.KnownLemmas.{known_judged, known_whole}
+use Rattle.words_reading.specs.Causes.{Cause, HasNoOffence, IsAnyhow, IsWholeInput, PassesLimit, words_limit}
+use Rattle.words_reading.specs.Judging.{SaysFront}
+use Rattle.words_reading.specs.Reading.{Stops}
+use Rattle.command_base.proofs.RealisedLemmas.{of_told, taken_rest}
+use Rattle.words_reading.proofs.WordsLemmas.{admitted_full, whole_end}
+use Rattle.command_base.specs.Realises.{PutsRead, RealisesLeaving}
+use Rattle.words_reading.specs.WordsVerdict.{StopsWithin, admitted}
 
--- no more bytes than the limit pass it
-none_past : (bytes : List ℕ) (old new : Ends) → length bytes ≤ words_limit → IsReadOf bytes old new → Stops SaysLines (PassesLimit IsWithoutOffence) put.Done old new → ⊥
-none_past bytes old new within read stops =
-    let known = known_judged old.left new.left bytes stops.judged stops.unjudged read.left stops.taken in
-    let at_limit = stops.cause.0 in
-    let some = stops.cause.1 in
-    let size = ap length known.1 ∙ length-append stops.judged (stops.unjudged ++ known.0) in
-    let behind = length-append stops.unjudged known.0 in
-    omega (arith, within, at_limit, some, size, behind)
+-- what was judged of told bytes is a front of them
+within_so : (Halts : List ℕ → List ℕ → Type 0) (Why : Cause) (result : Put) (old new : Ends) (input : List ℕ) → old.left ≡ Some input → (stops : Stops Halts Why result old new)
+    → StopsWithin Halts input stops.text
+within_so Halts Why result old new input known stops =
+    let (rest, is) = known_judged old.left new.left input stops.judged stops.unjudged known stops.taken in
+    (stops.judged, stops.unjudged ++ rest, is, stops.within, stops.says)
 
--- a limit was passed at a packet of the bytes, whose line had ended
-packet_passes : (bytes : List ℕ) (which : LimitOf) (old new : Ends) → IsReadOf bytes old new → Stops (PassesAtPacket which) (HasEndedLine old.left) put.Done old new
-    → PassesWithin which bytes
-packet_passes bytes which old new read stops = elim stops.cause [
-  | inl ended ↦
-      let known = known_judged old.left new.left bytes stops.judged stops.unjudged read.left stops.taken in
-      record { front = stops.judged; more = stops.unjudged ++ known.0; words = stops.text; spelled = known.1; ended = inl ended; passes = stops.says }
-  | inr whole ↦
-      let same = known_whole old.left bytes stops.judged read.left whole.0 in
-      record { front = stops.judged; more = []; words = stops.text; spelled = same ∙ sym (append-nil stops.judged); ended = inr refl; passes = stops.says }
-]
-
-long_passes : (bytes : List ℕ) (which : LimitOf) (old new : Ends) → words_limit < length bytes → NoLinePasses (take words_limit bytes) → IsReadOf bytes old new
-    → Stops (PassesAtPacket which) (HasEndedLine old.left) put.Done old new → ⊥
-long_passes bytes which old new past none read stops = elim stops.cause [
-  | inl ended ↦
-      let front = long_front (PassesAtPacket which) (HasEndedLine old.left) put.Done bytes old new read stops in
-      none which stops.judged front.0 stops.text front.1 ended stops.says
-  | inr whole ↦ never_whole (PassesAtPacket which) (HasEndedLine old.left) put.Done bytes old new past read stops whole
-]
-
--- what was refused is the first offence of the bytes
-refused_first : (bytes : List ℕ) (refusal : Refusal) (old new : Ends) → IsReadOf bytes old new → Stops (RefusesAt refusal) IsAnyhow put.Done old new → IsFirstOffence bytes refusal
-refused_first bytes refusal old new read stops =
-    let known = known_judged old.left new.left bytes stops.judged stops.unjudged read.left stops.taken in
-    subst (λ (b : List ℕ). IsFirstOffence b refusal) (sym known.1) (inl (offends_stays stops.judged (stops.unjudged ++ known.0) refusal stops.says.offends))
-
-cut_first : (bytes : List ℕ) (refusal : Refusal) (old new : Ends) → IsReadOf bytes old new → Stops SaysLines (EndsInput refusal old.left) put.Done old new → IsFirstOffence bytes refusal
-cut_first bytes refusal old new read stops =
-    subst (λ (b : List ℕ). IsFirstOffence b refusal) (sym (known_whole old.left bytes stops.judged read.left stops.cause.0.0)) (inr stops.cause.1)
-
--- what was read whole is an import
-whole_import : (bytes : List ℕ) (old new : Ends) → IsReadOf bytes old new → (stops : Stops IsMccImport (IsWholeInput old.left) put.Done old new) → IsMccImport bytes stops.text
-whole_import bytes old new read stops =
-    subst (λ (b : List ℕ). IsMccImport b stops.text) (sym (known_whole old.left bytes stops.judged read.left stops.cause.0)) stops.says
-
--- a file within the limits whose words are a words file
-pub file_imported : FileIsImported
-file_imported bytes words old new status.Ok is within read (steady, stops) =
-    inl (refl, subst (λ (w : List ℕ). Puts old.written new.written put.Done w) (one_import bytes stops.text words (whole_import bytes old new read stops) is) stops.output)
-file_imported bytes words old new status.Memory is within read answered = inr refl
-file_imported bytes words old new status.ReadFault is within read answered = absurd (read.reads answered.0)
-file_imported bytes words old new status.WriteFault is within read answered = absurd (read.writes answered.1)
-file_imported bytes words old new (status.Limit limit.Bytes) is within read (steady, inl stops) = absurd (none_past bytes old new within read stops)
-file_imported bytes words old new (status.Limit limit.Bytes) is within read (steady, inr stops) =
-    let p = packet_passes bytes limit.Bytes old new read stops in
-    absurd (never_passed is.placed bytes words p.front p.more p.words limit.Bytes is.file is.within p.spelled p.passes)
-file_imported bytes words old new (status.Limit limit.Frames) is within read (steady, stops) =
-    let p = packet_passes bytes limit.Frames old new read stops in
-    absurd (never_passed is.placed bytes words p.front p.more p.words limit.Frames is.file is.within p.spelled p.passes)
-file_imported bytes words old new (status.Malformed (Byte place) why) is within read (steady, inl stops) =
-    let refusal : Refusal = record { place = place; why = why } in
-    absurd (no_import_offends bytes words is refusal (refused_first bytes refusal old new read stops))
-file_imported bytes words old new (status.Malformed (Byte place) why) is within read (steady, inr stops) =
-    let refusal : Refusal = record { place = place; why = why } in
-    absurd (no_import_offends bytes words is refusal (cut_first bytes refusal old new read stops))
-file_imported bytes words old new _ is within read answered = absurd answered
-
--- nothing but a first offence is named
-pub refusals_first : RefusalsAreFirst
-refusals_first bytes refusal old new read (steady, inl stops) = refused_first bytes refusal old new read stops
-refusals_first bytes refusal old new read (steady, inr stops) = cut_first bytes refusal old new read stops
-
-pub others_refused : OthersAreRefused
-others_refused bytes old new status.Ok other none within read (steady, stops) = absurd (other stops.text (whole_import bytes old new read stops))
-others_refused bytes old new status.Memory other none within read answered = inr refl
-others_refused bytes old new status.ReadFault other none within read answered = absurd (read.reads answered.0)
-others_refused bytes old new status.WriteFault other none within read answered = absurd (read.writes answered.1)
-others_refused bytes old new (status.Limit limit.Bytes) other none within read (steady, inl stops) = absurd (none_past bytes old new within read stops)
-others_refused bytes old new (status.Limit limit.Bytes) other none within read (steady, inr stops) =
-    absurd (none limit.Bytes (packet_passes bytes limit.Bytes old new read stops))
-others_refused bytes old new (status.Limit limit.Frames) other none within read (steady, stops) =
-    absurd (none limit.Frames (packet_passes bytes limit.Frames old new read stops))
-others_refused bytes old new (status.Malformed (Byte place) why) other none within read answered =
-    let refusal : Refusal = record { place = place; why = why } in
-    inl (refusal, refusals_first bytes refusal old new read answered, refl)
-others_refused bytes old new _ other none within read answered = absurd answered
-
--- bytes with a first offence
-same_malformed : (one other : Refusal) → one ≡ other → status.Malformed (Byte one.place) one.why ≡ status.Malformed (Byte other.place) other.why
-same_malformed one other same = ap (λ (r : Refusal). status.Malformed (Byte r.place) r.why) same
-
-pub offence_answered : FirstOffenceIsAnswered
-offence_answered bytes refusal old new status.Ok offends none within read (steady, stops) =
-    absurd (no_import_offends bytes stops.text (whole_import bytes old new read stops) refusal offends)
-offence_answered bytes refusal old new status.Memory offends none within read answered = inr refl
-offence_answered bytes refusal old new status.ReadFault offends none within read answered = absurd (read.reads answered.0)
-offence_answered bytes refusal old new status.WriteFault offends none within read answered = absurd (read.writes answered.1)
-offence_answered bytes refusal old new (status.Limit limit.Bytes) offends none within read (steady, inl stops) = absurd (none_past bytes old new within read stops)
-offence_answered bytes refusal old new (status.Limit limit.Bytes) offends none within read (steady, inr stops) =
-    absurd (none limit.Bytes (packet_passes bytes limit.Bytes old new read stops))
-offence_answered bytes refusal old new (status.Limit limit.Frames) offends none within read (steady, stops) =
-    absurd (none limit.Frames (packet_passes bytes limit.Frames old new read stops))
-offence_answered bytes refusal old new (status.Malformed (Byte place) why) offends none within read (steady, inl stops) =
-    let other : Refusal = record { place = place; why = why } in
-    inl (same_malformed other refusal (one_first bytes other refusal (refused_first bytes other old new read stops) offends))
-offence_answered bytes refusal old new (status.Malformed (Byte place) why) offends none within read (steady, inr stops) =
-    let other : Refusal = record { place = place; why = why } in
-    inl (same_malformed other refusal (one_first bytes other refusal (cut_first bytes other old new read stops) offends))
-offence_answered bytes refusal old new _ offends none within read answered = absurd answered
-
--- a line of a packet with which a limit is passed
-passed_once : (bytes : List ℕ) (which another : LimitOf) (old new : Ends) → PassesWithin which bytes → IsReadOf bytes old new
-    → Stops (PassesAtPacket another) (HasEndedLine old.left) put.Done old new → another ≡ which
-passed_once bytes which another old new p read stops =
-    let q = packet_passes bytes another old new read stops in
-    one_limit q.front q.more p.front p.more q.words p.words another which (sym q.spelled ∙ p.spelled) q.passes p.passes
-
--- nothing offends in the bytes up to it
-front_offends : (front rest : List ℕ) (which : LimitOf) (words judged behind : List ℕ) (refusal : Refusal) → PassesAtPacket which front words → judged ++ rest ≡ front ++ behind
-    → length judged ≤ length front → Offends judged refusal → ⊥
-front_offends front rest which words judged behind refusal p spelled within offends =
-    let more = front_of judged front rest behind spelled within in
-    by_offence (subst (λ (b : List ℕ). Offends b refusal) (sym more.1) (offends_stays judged more.0 refusal offends))
-  where
-    by_offence : Offends front refusal → ⊥
-    by_offence (inl w) = p.no_word refusal w
-    by_offence (inr (b, none)) = no_offence front refusal (p.placed ++ p.last ∷ []) (inl b) p.file
-
--- where something offends behind it, its line had ended before, and so the limit was passed before
-passed_before : (bytes : List ℕ) (which : LimitOf) (refusal : Refusal) (old new : Ends) → PassesWithin which bytes → IsReadOf bytes old new
-    → Stops (RefusesAt refusal) IsAnyhow put.Done old new → ⊥
-passed_before bytes which refusal old new p read stops =
-    let known = known_judged old.left new.left bytes stops.judged stops.unjudged read.left stops.taken in
-    let rest = stops.unjudged ++ known.0 in
-    let says = stops.says in
-    let all : stops.judged ++ rest ≡ p.front ++ p.more = sym known.1 ∙ p.spelled in
-    elim (cases_lt (length p.front) (length stops.judged)) [
-      | inr within ↦ front_offends p.front rest which p.words stops.judged p.more refusal p.passes all within says.offends
-      | inl below ↦ behind_it p.ended stops.judged rest stops.text says.front says.last says.spelled says.says all below
-    ]
-  where
-    behind_it : EndsLine p.front ⊎ (p.more ≡ []) → (judged rest words front : List ℕ) (last : ℕ) → judged ≡ front ++ last ∷ [] → SaysLines front words
-        → judged ++ rest ≡ p.front ++ p.more → length p.front < length judged → ⊥
-    behind_it (inr nothing) judged rest words front last spelled says all below =
-        omega (arith, below, ap length all, length-append judged rest, length-append p.front p.more, ap length nothing)
-    behind_it (inl ends) judged rest words front last spelled says all below =
-        let size = ap length spelled ∙ length-append front (last ∷ []) in
-        let split : front ++ (last ∷ rest) ≡ p.front ++ p.more = sym (append_assoc front (last ∷ []) rest) ∙ (ap (λ (b : List ℕ). b ++ rest) (sym spelled) ∙ all) in
-        let more = front_of p.front front p.more (last ∷ rest) (sym split) (omega (arith, below, size)) in
-        lines_pass_none front p.front more.0 words p.words which says more.1 ends p.passes
-
-cut_before : (bytes : List ℕ) (which : LimitOf) (refusal : Refusal) (old new : Ends) → PassesWithin which bytes → IsReadOf bytes old new
-    → Stops SaysLines (EndsInput refusal old.left) put.Done old new → ⊥
-cut_before bytes which refusal old new p read stops =
-    let same = known_whole old.left bytes stops.judged read.left stops.cause.0.0 in
-    elim p.ended [
-      | inl ends ↦ lines_pass_none stops.judged p.front p.more stops.text p.words which stops.says (sym same ∙ p.spelled) ends p.passes
-      | inr nothing ↦
-          let all : stops.judged ≡ p.front = sym same ∙ (p.spelled ∙ (ap (λ (b : List ℕ). p.front ++ b) nothing ∙ append-nil p.front)) in
-          let cut = subst (λ (b : List ℕ). IsMccCutShort b refusal) all stops.cause.1 in
-          cut.early.no_file (p.passes.placed ++ p.passes.last ∷ []) p.passes.file
+-- at the end of a line
+line_so : (which : LimitOf) (old new : Ends) (input : List ℕ) → old.left ≡ Some input → (stops : Stops (PassesAtPacket which) (HasEndedLine old.left) put.Done old new)
+    → StopsAtLine (PassesAtPacket which) input stops.text
+line_so which old new input known stops =
+    let (rest, is) = known_judged old.left new.left input stops.judged stops.unjudged known stops.taken in
+    elim stops.cause [
+      | inl line ↦ (stops.judged, stops.unjudged ++ rest, is, stops.within, stops.says, inl line)
+      | inr whole ↦
+          let same = known_whole old.left input stops.judged known whole.0 in
+          (stops.judged, [], same ∙ sym (append-nil stops.judged), stops.within, stops.says, inr refl)
     ]
 
-limit_before : (bytes : List ℕ) (which : LimitOf) (old new : Ends) (p : PassesWithin which bytes) → length p.front ≤ words_limit → IsReadOf bytes old new
-    → Stops SaysLines (PassesLimit IsWithoutOffence) put.Done old new → ⊥
-limit_before bytes which old new p within read stops = by_end p.ended
-  where
-    known : (rest : List ℕ) × (bytes ≡ stops.judged ++ (stops.unjudged ++ rest))
-    known = known_judged old.left new.left bytes stops.judged stops.unjudged read.left stops.taken
+-- of the whole input
+whole_so : (Says : List ℕ → List ℕ → Type 0) (Why : Cause) (old new : Ends) (input : List ℕ) → old.left ≡ Some input → (stops : Stops Says Why put.Done old new)
+    → IsWholeInput old.left stops.judged stops.unjudged → (length input ≤ words_limit) × Says input stops.text
+whole_so Says Why old new input known stops whole =
+    let same = known_whole old.left input stops.judged known whole.0 in
+    (subst (λ l. length l ≤ words_limit) (sym same) stops.within, subst (λ l. Says l stops.text) (sym same) stops.says)
 
-    by_end : EndsLine p.front ⊎ (p.more ≡ []) → ⊥
-    by_end (inl ends) =
-        let at_limit = stops.cause.0 in
-        let more = front_of p.front stops.judged p.more (stops.unjudged ++ known.0) (sym p.spelled ∙ known.1) (omega (arith, within, at_limit)) in
-        lines_pass_none stops.judged p.front more.0 stops.text p.words which stops.says more.1 ends p.passes
-    by_end (inr nothing) =
-        let size = ap length p.spelled ∙ length-append p.front p.more in
-        none_past bytes old new (omega (arith, within, size, ap length nothing)) read stops
+read_so : (old new : Ends) (input : List ℕ) → old.left ≡ Some input → Stops SaysLines (HasNoOffence IsWithoutOffence) put.Done old new
+    → PutsRead (λ aside. ImportMccVerdict) [] input old new
+read_so old new input known stops =
+    let all = ap (λ u. stops.judged ++ u) stops.cause.0 ∙ append-nil stops.judged in
+    let (rest, spelled, left) = taken_rest old.left new.left input stops.judged known (subst (Consumes old.left new.left) all stops.taken) in
+    record {
+      read = stops.judged;
+      rest = rest;
+      text = stops.text;
+      spelled = spelled;
+      taken = left;
+      says = (stops.within, stops.cause.1, stops.says);
+      output = stops.output;
+    }
 
-pub limit_answered : LimitIsAnswered
-limit_answered bytes which old new status.Ok p within read (steady, stops) =
-    let is = whole_import bytes old new read stops in
-    absurd (never_passed is.placed bytes stops.text p.front p.more p.words which is.file is.within p.spelled p.passes)
-limit_answered bytes which old new status.Memory p within read answered = inr refl
-limit_answered bytes which old new status.ReadFault p within read answered = absurd (read.reads answered.0)
-limit_answered bytes which old new status.WriteFault p within read answered = absurd (read.writes answered.1)
-limit_answered bytes which old new (status.Limit limit.Bytes) p within read (steady, inl stops) = absurd (limit_before bytes which old new p within read stops)
-limit_answered bytes which old new (status.Limit limit.Bytes) p within read (steady, inr stops) =
-    inl (ap (λ (l : LimitOf). status.Limit l) (passed_once bytes which limit.Bytes old new p read stops))
-limit_answered bytes which old new (status.Limit limit.Frames) p within read (steady, stops) =
-    inl (ap (λ (l : LimitOf). status.Limit l) (passed_once bytes which limit.Frames old new p read stops))
-limit_answered bytes which old new (status.Malformed (Byte place) why) p within read (steady, inl stops) =
-    absurd (passed_before bytes which (record { place = place; why = why }) old new p read stops)
-limit_answered bytes which old new (status.Malformed (Byte place) why) p within read (steady, inr stops) =
-    absurd (cut_before bytes which (record { place = place; why = why }) old new p read stops)
-limit_answered bytes which old new _ p within read answered = absurd answered
+limit_so : (old new : Ends) (input : List ℕ) → old.left ≡ Some input → (stops : Stops SaysLines (PassesLimit IsWithoutOffence) put.Done old new)
+    → (words_limit < length input) × IsWithoutOffence (admitted input) × SaysLines (admitted input) stops.text
+limit_so old new input known stops =
+    let (rest, is) = known_judged old.left new.left input stops.judged stops.unjudged known stops.taken in
+    let (full, some, fine) = stops.cause in
+    let size = ap length is ∙ length-append stops.judged (stops.unjudged ++ rest) in
+    let behind = length-append stops.unjudged rest in
+    let same = sym (admitted_full input stops.judged (stops.unjudged ++ rest) is full) in
+    (omega (arith, size, behind, full, some), subst IsWithoutOffence same fine, subst (λ l. SaysLines l stops.text) same stops.says)
 
--- bytes past the limit
-long_fine : (bytes : List ℕ) (old new : Ends) → IsReadOf bytes old new → Stops SaysLines (PassesLimit IsWithoutOffence) put.Done old new → IsWithoutOffence (take words_limit bytes)
-long_fine bytes old new read stops =
-    let front = long_front SaysLines (PassesLimit IsWithoutOffence) put.Done bytes old new read stops in
-    let at_limit = stops.cause.0 in
-    let long = length-take-most words_limit bytes in
-    let size = ap length front.1 ∙ length-append stops.judged front.0 in
-    let none : length front.0 ≡ 0 = omega (arith, at_limit, size, long) in
-    subst (λ (b : List ℕ). IsWithoutOffence b) (sym (front.1 ∙ (ap (λ (b : List ℕ). stops.judged ++ b) (empty front.0 none) ∙ append-nil stops.judged))) stops.cause.2
-  where
-    empty : (xs : List ℕ) → length xs ≡ 0 → xs ≡ []
-    empty [] none = refl
-    empty (x ∷ xs) none = absurd (omega (arith, none))
+cut_so : (refusal : Refusal) (old new : Ends) (input : List ℕ) → old.left ≡ Some input → (stops : Stops SaysLines (EndsInput refusal old.left) put.Done old new)
+    → (length input ≤ words_limit) × IsMccCutShort input refusal × SaysLines input stops.text
+cut_so refusal old new input known stops =
+    let same = known_whole old.left input stops.judged known stops.cause.0.0 in
+    let (within, says) = whole_so SaysLines (EndsInput refusal old.left) old new input known stops stops.cause.0 in
+    (within, subst (λ l. IsMccCutShort l refusal) (sym same) stops.cause.1, says)
 
-    length-take-most : (n : ℕ) (xs : List ℕ) → length (take n xs) ≤ n
-    length-take-most n xs = omega (arith, length-take n xs)
+written_so : (old new : Ends) (input : List ℕ) → old.left ≡ Some input → (stops : Stops (SaysFront SaysImport HaltsImport) IsAnyhow put.Failed old new)
+    → ImportMccVerdict input status.WriteFault stops.text
+written_so old new input known stops =
+    let (rest, is) = known_judged old.left new.left input stops.judged stops.unjudged known stops.taken in
+    elim stops.says [
+      | inl says ↦ inl (stops.judged, stops.unjudged ++ rest, is, stops.within, says)
+      | inr halts ↦ inr (halts.0, (stops.judged, stops.unjudged ++ rest, is, stops.within, halts.1))
+    ]
 
-pub long_answered : LongIsAnswered
-long_answered bytes old new status.Ok past none read (steady, stops) = absurd (never_whole IsMccImport (IsWholeInput old.left) put.Done bytes old new past read stops stops.cause)
-long_answered bytes old new status.Memory past none read answered = inr refl
-long_answered bytes old new status.ReadFault past none read answered = absurd (read.reads answered.0)
-long_answered bytes old new status.WriteFault past none read answered = absurd (read.writes answered.1)
-long_answered bytes old new (status.Limit limit.Bytes) past none read (steady, inl stops) = inl (inr (long_fine bytes old new read stops, refl))
-long_answered bytes old new (status.Limit limit.Bytes) past none read (steady, inr stops) =
-    absurd (long_passes bytes limit.Bytes old new past none read stops)
-long_answered bytes old new (status.Limit limit.Frames) past none read (steady, stops) =
-    absurd (long_passes bytes limit.Frames old new past none read stops)
-long_answered bytes old new (status.Malformed (Byte place) why) past none read (steady, inl stops) =
-    let refusal : Refusal = record { place = place; why = why } in
-    let front = long_front (RefusesAt refusal) IsAnyhow put.Done bytes old new read stops in
-    inl (inl (refusal, subst (λ (b : List ℕ). Offends b refusal) (sym front.1) (offends_stays stops.judged front.0 refusal stops.says.offends), refl))
-long_answered bytes old new (status.Malformed (Byte place) why) past none read (steady, inr stops) =
-    let refusal : Refusal = record { place = place; why = why } in
-    absurd (never_whole SaysLines (EndsInput refusal old.left) put.Done bytes old new past read stops stops.cause.0)
-long_answered bytes old new _ past none read answered = absurd answered
+-- the file was read to its end, and its words were put
+pub imported : (old new : Ends) → IsSteady old new → Stops IsMccImport (IsWholeInput old.left) put.Done old new → RealisesLeaving ImportMccVerdict old new status.Ok
+imported old new steady stops = (
+  (
+    refl,
+    record { aside = refl; reads = steady.reads; writes = steady.writes },
+    of_told _ old.left (λ input known. (
+      whole_end old.left new.left input stops.judged stops.unjudged known stops.taken stops.cause,
+      (stops.text, whole_so IsMccImport (IsWholeInput old.left) old new input known stops stops.cause, stops.output),
+    )),
+  ),
+  λ memory. cc,
+)
+
+-- a read of it failed, or a put of its words
+pub read_failed : (old new : Ends) → Rose old.read_faults new.read_faults → new.write_faults ≡ old.write_faults → Stops SaysLines (HasNoOffence IsWithoutOffence) put.Done old new
+    → RealisesLeaving ImportMccVerdict old new status.ReadFault
+read_failed old new rose writes stops = (inr (refl, rose, writes, of_told _ old.left (λ input known. read_so old new input known stops)), λ memory. cc)
+
+pub put_failed : (old new : Ends) → new.read_faults ≡ old.read_faults → Rose old.write_faults new.write_faults
+    → Stops (SaysFront SaysImport HaltsImport) IsAnyhow put.Failed old new → RealisesLeaving ImportMccVerdict old new status.WriteFault
+put_failed old new reads rose stops =
+    ((refl, reads, rose, of_told _ old.left (λ input known. (stops.text, written_so old new input known stops, stops.output))), λ memory. cc)
+
+-- it passes the limit
+pub past_limit : (old new : Ends) → IsSteady old new → Stops SaysLines (PassesLimit IsWithoutOffence) put.Done old new
+    → RealisesLeaving ImportMccVerdict old new (status.Limit limit.Bytes)
+past_limit old new steady stops = (
+  (
+    record { aside = refl; reads = steady.reads; writes = steady.writes },
+    of_told _ old.left (λ input known. (stops.text, inl (limit_so old new input known stops), stops.output)),
+  ),
+  λ memory. cc,
+)
+
+-- it ends too soon, or something in it offends
+pub cut_short : (refusal : Refusal) (old new : Ends) → IsSteady old new → Stops SaysLines (EndsInput refusal old.left) put.Done old new
+    → RealisesLeaving ImportMccVerdict old new (status.Malformed (Byte refusal.place) refusal.why)
+cut_short refusal old new steady stops = (
+  (
+    record { aside = refl; reads = steady.reads; writes = steady.writes },
+    of_told _ old.left (λ input known. (stops.text, inr (cut_so refusal old new input known stops), stops.output)),
+  ),
+  λ memory. cc,
+)
+
+pub offended : (refusal : Refusal) (old new : Ends) → IsSteady old new → Stops (RefusesAt refusal) IsAnyhow put.Done old new
+    → RealisesLeaving ImportMccVerdict old new (status.Malformed (Byte refusal.place) refusal.why)
+offended refusal old new steady stops = (
+  (
+    record { aside = refl; reads = steady.reads; writes = steady.writes },
+    of_told _ old.left (λ input known. (stops.text, inl (within_so (RefusesAt refusal) IsAnyhow put.Done old new input known stops), stops.output)),
+  ),
+  λ memory. cc,
+)
+
+-- a limit is passed with a packet
+pub passed : (which : LimitOf) (old new : Ends) → IsSteady old new → Stops (PassesAtPacket which) (HasEndedLine old.left) put.Done old new
+    → RealisesLeaving ImportMccVerdict old new (status.Limit which)
+passed limit.Bytes old new steady stops = (
+  (
+    record { aside = refl; reads = steady.reads; writes = steady.writes },
+    of_told _ old.left (λ input known. (stops.text, inr (line_so limit.Bytes old new input known stops), stops.output)),
+  ),
+  λ memory. cc,
+)
+passed limit.Frames old new steady stops = (
+  (
+    record { aside = refl; reads = steady.reads; writes = steady.writes },
+    of_told _ old.left (λ input known. (stops.text, line_so limit.Frames old new input known stops, stops.output)),
+  ),
+  λ memory. cc,
+)
+passed limit.Cues old new steady stops = absurd stops.says.passes
+passed limit.Packet old new steady stops = absurd stops.says.passes
+passed limit.Day old new steady stops = absurd stops.says.passes

@@ -17,6 +17,7 @@ pub mod AddLemmas
 pub mod ItemLemmas
 pub mod RunLemmas
 pub mod ImportVerdictLemmas
+pub mod ImportEveryLemmas
 pub mod JudgeLemmas
 pub mod ImportStepLemmas
 pub mod ImportFrontLemmas
@@ -32,3 +33,5 @@ pub mod MakingLemmas
 pub mod EachLemmas
 pub mod RoundTripMadeLemmas
 pub mod TripLemmas
+pub mod EveryLineLemmas
+pub mod ExportEveryLemmas

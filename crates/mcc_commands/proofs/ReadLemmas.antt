@@ -16,9 +16,9 @@ use Rattle.words_reading.specs.Causes.{Cause, IsWholeInput, words_limit}
 use Rattle.words_reading.specs.Judging.{StopCause, StopsBy}
 use Rattle.words_reading.specs.declared.judge.Stop.{Stop}
 use Rattle.words_reading.specs.declared.judge.Stop.TheVariants as stopped
-use Rattle.mcc_commands.specs.ImportMcc.{EndsInput, HaltsImport, HasEndedLine}
+use Rattle.mcc_commands.specs.ImportMcc.{HaltsImport}
 use Rattle.mcc_commands.specs.Imported.{AreWithinImport, IsMccImport, SaysLines}
-use Rattle.mcc_commands.specs.Importing.{EndsFile, HaltsBehind, HaltsWhere, HasHalted, HasImported, Holds, IsMade, MayTake, MayTakeAll, ReadsFile}
+use Rattle.mcc_commands.specs.Importing.{EndsFile, EndsInput, HaltsBehind, HaltsWhere, HasEndedLine, HasHalted, HasImported, Holds, IsMade, MayTake, MayTakeAll, ReadsFile}
 use Rattle.mcc_commands.specs.Offences.{IsWithoutOffence}
 use Rattle.mcc_commands.specs.declared.importing.Importing.{Importing}
 use Rattle.mcc_commands.specs.declared.made.Made.{Made}

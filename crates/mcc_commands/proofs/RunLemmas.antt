@@ -4,8 +4,6 @@ use Rattle.std.specs.Io.KnownBytes.{Appends}
 use Rattle.mcc_commands.specs.Offences.{IsWithoutOffence}
 use Rattle.cc_base.specs.Streams.{Puts, Rose}
 use Rattle.cc_base.specs.declared.refusal.Refusal.{Refusal}
-use Rattle.cc_base.specs.declared.limit_of.LimitOf.{LimitOf}
-use Rattle.cc_base.specs.declared.limit_of.LimitOf.TheVariants as limit
 use Rattle.cc_base.specs.declared.streams.Put.TheVariants as put
 use Rattle.command_base.specs.Ends.{Ends, IsSteady, ends}
 use Rattle.command_base.specs.declared.status.Status.{Status}
@@ -17,9 +15,11 @@ use Rattle.words_reading.specs.Reading.{Stops}
 use Rattle.words_reading.specs.Statuses.{stop_status as status_of}
 use Rattle.words_reading.specs.declared.judge.Stop.{Stop}
 use Rattle.words_reading.specs.declared.judge.Stop.TheVariants as stopped
-use Rattle.mcc_commands.specs.ImportMcc.{EndsInput, HaltsImport, HasEndedLine, ImportMccAnswer, SaysImport}
-use Rattle.mcc_commands.specs.Imported.{IsMccImport, PassesAtPacket, SaysLines}
-use Rattle.mcc_commands.specs.Importing.{HaltsWhere, Holds, PutsHeld, PutsRest, ReadsFile}
+use Rattle.command_base.specs.Realises.{RealisesLeaving}
+use Rattle.mcc_commands.proofs.ImportAnswerLemmas.{cut_short, imported, offended, passed, past_limit, put_failed, read_failed}
+use Rattle.mcc_commands.specs.ImportMcc.{HaltsImport, ImportMccVerdict, SaysImport}
+use Rattle.mcc_commands.specs.Imported.{IsMccImport, SaysLines}
+use Rattle.mcc_commands.specs.Importing.{EndsInput, HaltsWhere, Holds, PutsHeld, PutsRest, ReadsFile}
 use Rattle.mcc_commands.specs.Stops.{stop_status}
 use Rattle.mcc_commands.specs.declared.import_stop.MccStop.{MccStop}
 use Rattle.mcc_commands.specs.declared.import_stop.MccStop.TheVariants as stop
@@ -83,101 +83,87 @@ rose_on : (writes still last : ℕ) → still ≡ writes → Rose still last →
 rose_on writes still last same rose = subst (λ (n : ℕ). Rose n last) same rose
 
 answer_is : (first left begun then : Option (List ℕ)) (reads later writes last : ℕ) (result other : Result (Unit {0}) (Stop MccStop)) → result ≡ other
-    → ImportMccAnswer (ends first reads begun writes) (ends left later then last) (result_status other)
-    → ImportMccAnswer (ends first reads begun writes) (ends left later then last) (result_status result)
+    → RealisesLeaving ImportMccVerdict (ends first reads begun writes) (ends left later then last) (result_status other)
+    → RealisesLeaving ImportMccVerdict (ends first reads begun writes) (ends left later then last) (result_status result)
 answer_is first left begun then reads later writes last result other same is =
-    subst (λ (r : Result (Unit {0}) (Stop MccStop)). ImportMccAnswer (ends first reads begun writes) (ends left later then last) (result_status r)) (sym same) is
+    subst (λ (r : Result (Unit {0}) (Stop MccStop)). RealisesLeaving ImportMccVerdict (ends first reads begun writes) (ends left later then last) (result_status r)) (sym same) is
 
--- a limit that is passed with a packet is that of the bytes, or of the frames
-passes_answer : (first left begun then : Option (List ℕ)) (reads later writes last : ℕ) (which : LimitOf) → IsSteady (ends first reads begun writes) (ends left later then last)
-    → Stops (PassesAtPacket which) (HasEndedLine first) put.Done (ends first reads begun writes) (ends left later then last)
-    → ImportMccAnswer (ends first reads begun writes) (ends left later then last) (status.Limit which)
-passes_answer first left begun then reads later writes last limit.Bytes steady stops = (steady, inr stops)
-passes_answer first left begun then reads later writes last limit.Frames steady stops = (steady, stops)
-passes_answer first left begun then reads later writes last limit.Cues steady stops = absurd stops.says.passes
-passes_answer first left begun then reads later writes last limit.Packet steady stops = absurd stops.says.passes
-passes_answer first left begun then reads later writes last limit.Day steady stops = absurd stops.says.passes
-
+-- a reason of the import's own
 own_answer : (first left begun then : Option (List ℕ)) (reads later writes last : ℕ) (why : MccStop) → IsSteady (ends first reads begun writes) (ends left later then last)
     → Stops (HaltsImport why) (HaltsWhere first why) put.Done (ends first reads begun writes) (ends left later then last)
-    → ImportMccAnswer (ends first reads begun writes) (ends left later then last) (stop_status why)
-own_answer first left begun then reads later writes last (stop.Offends refusal) steady stops = (steady, inl stops)
-own_answer first left begun then reads later writes last (stop.Passes which) steady stops = passes_answer first left begun then reads later writes last which steady stops
+    → RealisesLeaving ImportMccVerdict (ends first reads begun writes) (ends left later then last) (stop_status why)
+own_answer first left begun then reads later writes last (stop.Offends refusal) steady stops = offended refusal (ends first reads begun writes) (ends left later then last) steady stops
+own_answer first left begun then reads later writes last (stop.Passes which) steady stops = passed which (ends first reads begun writes) (ends left later then last) steady stops
 
 module _ (first left begun now then : Option (List ℕ)) (reads later writes still last : ℕ) (held : List ℕ) where
   ok_answered : (result : Result (Unit {0}) (Stop MccStop)) → ReadsFile (ends first reads begun writes) (ends left later now still) held (Ok tt)
-      → Held now still then last held (Ok tt) result → ImportMccAnswer (ends first reads begun writes) (ends left later then last) (result_status result)
+      → Held now still then last held (Ok tt) result → RealisesLeaving ImportMccVerdict (ends first reads begun writes) (ends left later then last) (result_status result)
   ok_answered result (steady, had) (put_all same none appended) =
       answer_is first left begun then reads later writes last result (Ok tt) same
-      (steady_on first left begun now then reads later writes still last steady none, puts_all IsMccImport (IsWholeInput first) first left begun now then reads later writes still last held had appended)
+      (imported (ends first reads begun writes) (ends left later then last) (steady_on first left begun now then reads later writes still last steady none)
+      (puts_all IsMccImport (IsWholeInput first) first left begun now then reads later writes still last held had appended))
   ok_answered result (steady, had) (failed same rose fails) =
-      answer_is first left begun then reads later writes last result (Err stopped.WriteFault) same (
-        steady.reads,
-        rose_on writes still last steady.writes rose,
-        puts_front IsMccImport (IsWholeInput first) first left begun now then reads later writes still last held (λ bytes words is. inl (inr is)) had fails,
-      )
+      answer_is first left begun then reads later writes last result (Err stopped.WriteFault) same
+      (put_failed (ends first reads begun writes) (ends left later then last) steady.reads (rose_on writes still last steady.writes rose)
+      (puts_front IsMccImport (IsWholeInput first) first left begun now then reads later writes still last held (λ bytes words is. inl (inr is)) had fails))
 
   limit_answered : (result : Result (Unit {0}) (Stop MccStop)) → ReadsFile (ends first reads begun writes) (ends left later now still) held (Err stopped.Limit)
-      → Held now still then last held (Err stopped.Limit) result → ImportMccAnswer (ends first reads begun writes) (ends left later then last) (result_status result)
+      → Held now still then last held (Err stopped.Limit) result → RealisesLeaving ImportMccVerdict (ends first reads begun writes) (ends left later then last) (result_status result)
   limit_answered result (steady, had) (put_all same none appended) =
       answer_is first left begun then reads later writes last result (Err stopped.Limit) same
-      (steady_on first left begun now then reads later writes still last steady none, inl (puts_all SaysLines (PassesLimit IsWithoutOffence) first left begun now then reads later writes still last held had appended))
+      (past_limit (ends first reads begun writes) (ends left later then last) (steady_on first left begun now then reads later writes still last steady none)
+      (puts_all SaysLines (PassesLimit IsWithoutOffence) first left begun now then reads later writes still last held had appended))
   limit_answered result (steady, had) (failed same rose fails) =
-      answer_is first left begun then reads later writes last result (Err stopped.WriteFault) same (
-        steady.reads,
-        rose_on writes still last steady.writes rose,
-        puts_front SaysLines (PassesLimit IsWithoutOffence) first left begun now then reads later writes still last held (λ bytes words is. inl (inl is)) had fails,
-      )
+      answer_is first left begun then reads later writes last result (Err stopped.WriteFault) same
+      (put_failed (ends first reads begun writes) (ends left later then last) steady.reads (rose_on writes still last steady.writes rose)
+      (puts_front SaysLines (PassesLimit IsWithoutOffence) first left begun now then reads later writes still last held (λ bytes words is. inl (inl is)) had fails))
 
   refused_answered : (refusal : Refusal) (result : Result (Unit {0}) (Stop MccStop)) → ReadsFile (ends first reads begun writes) (ends left later now still) held (Err (stopped.Refused refusal))
-      → Held now still then last held (Err (stopped.Refused refusal)) result → ImportMccAnswer (ends first reads begun writes) (ends left later then last) (result_status result)
+      → Held now still then last held (Err (stopped.Refused refusal)) result → RealisesLeaving ImportMccVerdict (ends first reads begun writes) (ends left later then last) (result_status result)
   refused_answered refusal result (steady, had) (put_all same none appended) =
-      answer_is first left begun then reads later writes last result (Err (stopped.Refused refusal)) same (
-        steady_on first left begun now then reads later writes still last steady none,
-        inr (puts_all SaysLines (EndsInput refusal first) first left begun now then reads later writes still last held had appended),
-      )
+      answer_is first left begun then reads later writes last result (Err (stopped.Refused refusal)) same
+      (cut_short refusal (ends first reads begun writes) (ends left later then last) (steady_on first left begun now then reads later writes still last steady none)
+      (puts_all SaysLines (EndsInput refusal first) first left begun now then reads later writes still last held had appended))
   refused_answered refusal result (steady, had) (failed same rose fails) =
-      answer_is first left begun then reads later writes last result (Err stopped.WriteFault) same (
-        steady.reads,
-        rose_on writes still last steady.writes rose,
-        puts_front SaysLines (EndsInput refusal first) first left begun now then reads later writes still last held (λ bytes words is. inl (inl is)) had fails,
-      )
+      answer_is first left begun then reads later writes last result (Err stopped.WriteFault) same
+      (put_failed (ends first reads begun writes) (ends left later then last) steady.reads (rose_on writes still last steady.writes rose)
+      (puts_front SaysLines (EndsInput refusal first) first left begun now then reads later writes still last held (λ bytes words is. inl (inl is)) had fails))
 
   own_answered : (why : MccStop) (result : Result (Unit {0}) (Stop MccStop)) → ReadsFile (ends first reads begun writes) (ends left later now still) held (Err (stopped.Own why))
-      → Held now still then last held (Err (stopped.Own why)) result → ImportMccAnswer (ends first reads begun writes) (ends left later then last) (result_status result)
+      → Held now still then last held (Err (stopped.Own why)) result → RealisesLeaving ImportMccVerdict (ends first reads begun writes) (ends left later then last) (result_status result)
   own_answered why result (steady, had) (put_all same none appended) =
       answer_is first left begun then reads later writes last result (Err (stopped.Own why)) same
       (own_answer first left begun then reads later writes last why (steady_on first left begun now then reads later writes still last steady none)
       (puts_all (HaltsImport why) (HaltsWhere first why) first left begun now then reads later writes still last held had appended))
   own_answered why result (steady, had) (failed same rose fails) =
-      answer_is first left begun then reads later writes last result (Err stopped.WriteFault) same (
-        steady.reads,
-        rose_on writes still last steady.writes rose,
-        puts_front (HaltsImport why) (HaltsWhere first why) first left begun now then reads later writes still last held (λ bytes words is. inr (why, is)) had fails,
-      )
+      answer_is first left begun then reads later writes last result (Err stopped.WriteFault) same
+      (put_failed (ends first reads begun writes) (ends left later then last) steady.reads (rose_on writes still last steady.writes rose)
+      (puts_front (HaltsImport why) (HaltsWhere first why) first left begun now then reads later writes still last held (λ bytes words is. inr (why, is)) had fails))
 
-  kept_answered : (why : Stop MccStop) (result : Result (Unit {0}) (Stop MccStop)) → ImportMccAnswer (ends first reads begun writes) (ends left later now still) (result_status (Err why))
-      → (result ≡ Err why) × (then ≡ now) × (last ≡ still) → ImportMccAnswer (ends first reads begun writes) (ends left later then last) (result_status result)
+  kept_answered : (why : Stop MccStop) (result : Result (Unit {0}) (Stop MccStop)) → RealisesLeaving ImportMccVerdict (ends first reads begun writes) (ends left later now still) (result_status (Err why))
+      → (result ≡ Err why) × (then ≡ now) × (last ≡ still) → RealisesLeaving ImportMccVerdict (ends first reads begun writes) (ends left later then last) (result_status result)
   kept_answered why result is (same, kept, none) =
       answer_is first left begun then reads later writes last result (Err why) same
-      (subst (λ (n : ℕ). ImportMccAnswer (ends first reads begun writes) (ends left later then n) (result_status (Err why))) (sym none)
-      (subst (λ (t : Option (List ℕ)). ImportMccAnswer (ends first reads begun writes) (ends left later t still) (result_status (Err why))) (sym kept) is))
+      (subst (λ (n : ℕ). RealisesLeaving ImportMccVerdict (ends first reads begun writes) (ends left later then n) (result_status (Err why))) (sym none)
+      (subst (λ (t : Option (List ℕ)). RealisesLeaving ImportMccVerdict (ends first reads begun writes) (ends left later t still) (result_status (Err why))) (sym kept) is))
 
   pub answered : (read result : Result (Unit {0}) (Stop MccStop)) → ReadsFile (ends first reads begun writes) (ends left later now still) held read
-      → PutsRest now still then last held read result → ImportMccAnswer (ends first reads begun writes) (ends left later then last) (result_status result)
+      → PutsRest now still then last held read result → RealisesLeaving ImportMccVerdict (ends first reads begun writes) (ends left later then last) (result_status result)
   answered (Ok done) result is rest = ok_answered result is (held_so now still then last held (Ok tt) result rest)
-  answered (Err stopped.ReadFault) result is rest = kept_answered stopped.ReadFault result is rest
-  answered (Err stopped.WriteFault) result is rest = kept_answered stopped.WriteFault result is rest
+  answered (Err stopped.ReadFault) result is rest =
+      kept_answered stopped.ReadFault result (read_failed (ends first reads begun writes) (ends left later now still) is.0 is.1 is.2) rest
+  answered (Err stopped.WriteFault) result is rest =
+      kept_answered stopped.WriteFault result (put_failed (ends first reads begun writes) (ends left later now still) is.0 is.1 is.2) rest
   answered (Err stopped.Limit) result is rest = limit_answered result is (held_so now still then last held (Err stopped.Limit) result rest)
   answered (Err (stopped.Refused refusal)) result is rest =
       refused_answered refusal result is (held_so now still then last held (Err (stopped.Refused refusal)) result rest)
   answered (Err (stopped.Own why)) result is rest = own_answered why result is (held_so now still then last held (Err (stopped.Own why)) result rest)
 
 -- by the kind of result
-pub ok_is : (old new : Ends) (result : Result (Unit {0}) (Stop MccStop)) (done : Unit {0}) → result ≡ Ok done → ImportMccAnswer old new (result_status result) → ImportMccAnswer old new status.Ok
-ok_is old new result done same is = subst (λ (r : Result (Unit {0}) (Stop MccStop)). ImportMccAnswer old new (result_status r)) same is
+pub ok_is : (old new : Ends) (result : Result (Unit {0}) (Stop MccStop)) (done : Unit {0}) → result ≡ Ok done → RealisesLeaving ImportMccVerdict old new (result_status result) → RealisesLeaving ImportMccVerdict old new status.Ok
+ok_is old new result done same is = subst (λ (r : Result (Unit {0}) (Stop MccStop)). RealisesLeaving ImportMccVerdict old new (result_status r)) same is
 
 pub err_is : (old new : Ends) (result : Result (Unit {0}) (Stop MccStop)) (why : Stop MccStop) (answer : Status) → result ≡ Err why → answer ≡ status_of stop_status why
-    → ImportMccAnswer old new (result_status result) → ImportMccAnswer old new answer
+    → RealisesLeaving ImportMccVerdict old new (result_status result) → RealisesLeaving ImportMccVerdict old new answer
 err_is old new result why answer same told is =
-    subst (λ (s : Status). ImportMccAnswer old new s) (sym told) (subst (λ (r : Result (Unit {0}) (Stop MccStop)). ImportMccAnswer old new (result_status r)) same is)
+    subst (λ (s : Status). RealisesLeaving ImportMccVerdict old new s) (sym told) (subst (λ (r : Result (Unit {0}) (Stop MccStop)). RealisesLeaving ImportMccVerdict old new (result_status r)) same is)

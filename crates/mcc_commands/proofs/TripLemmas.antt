@@ -1,26 +1,20 @@
 -- What is exported is imported as it was.
-use Rattle.std.proofs.Common.{◌≡◌, ℕ, ◌<◌, ◌≤◌, ◌++◌, List, [], ◌∷◌, append-nil, length, length-append, Option, Some, ap, sym, ◌∙◌, subst, arith}
-use Rattle.std.specs.Io.KnownBytes.{Appends}
-use Rattle.cc_base.specs.Streams.{Puts}
-use Rattle.cc_base.specs.declared.streams.Put.TheVariants as put
+use Rattle.std.proofs.Common.{◌≡◌, inl, inr, ℕ, ◌<◌, ◌≤◌, ◌++◌, List, [], ◌∷◌, append-nil, length, length-append, ap, sym, ◌∙◌, subst, arith}
 use Rattle.cdp_packets.specs.Packets.{Frame}
-use Rattle.command_base.specs.Ends.{Ends}
+use Rattle.command_base.specs.declared.status.Status.TheVariants as status
 use Rattle.services_files.specs.CaptionChannel.{caption_channel}
 use Rattle.time_codes.specs.Countings.{day_frames_in}
 use Rattle.time_codes.specs.declared.counting.Counting.{Counting}
 use Rattle.time_codes.specs.declared.counting.Counting.TheVariants as counting
 use Rattle.words_files.specs.Offences.{IsFileUnder}
-use Rattle.words_reading.proofs.KnownLemmas.{known_whole}
-use Rattle.words_reading.specs.Causes.{IsWholeFile, words_limit}
-use Rattle.words_reading.specs.Reading.{Stops}
+use Rattle.words_reading.specs.Causes.{words_limit}
 use Rattle.mcc_words.specs.Close.{words_as_they_came}
 use Rattle.mcc_words.specs.MccWords.{AreMccWords}
 use Rattle.mcc_commands.proofs.FileLemmas.{exported_file, exported_words}
-use Rattle.mcc_commands.specs.ExportMcc.{IsMccOf, SaysMcc}
+use Rattle.mcc_commands.specs.ExportMcc.{ExportMccVerdict, IsMccOf, SaysMcc}
 use Rattle.mcc_commands.specs.Placing.{placed}
 use Rattle.mcc_commands.specs.declared.start.Start.{Start}
 use Rattle.mcc_commands.specs.Imported.{IsMccImport, most_imported_frames}
-use Rattle.mcc_commands.proofs.ImportAnswerLemmas.{file_imported}
 use Rattle.mcc_commands.proofs.LimitLemmas.{one_import}
 use Rattle.mcc_commands.proofs.RoundTripMadeLemmas.{frames_are, words_are}
 use Rattle.mcc_commands.specs.RoundTrip.{ExportedFilesAreImports, WordsComeBack}
@@ -62,32 +56,27 @@ exported_again start frames words text is_file below mcc short =
     let is = exported_import start frames words text is_file below mcc short in
     record { is = is; just = λ others also. one_import text others words also is }
 
--- what was put is known
-put_known : (old new : Option (List ℕ)) (text more : List ℕ) → old ≡ Some [] → new ≡ Some text → Puts old new put.Done more → text ≡ more
-put_known old new text more nothing put puts =
-    subst (λ (n : Option (List ℕ)). Appends (Some []) n more) put (subst (λ (o : Option (List ℕ)). Appends o new more) nothing puts)
-
 -- the longest file with which a file begins is that file
 all_of : (file behind bytes : List ℕ) → bytes ≡ file ++ behind → length bytes ≤ length file → file ≡ bytes
 all_of file [] bytes spelled within = sym (spelled ∙ append-nil file)
 all_of file (byte ∷ behind) bytes spelled within = absurd (omega (arith, ap length spelled, length-append file (byte ∷ behind), within))
 
--- an export that read words to their end wrote all of them
-said_all : (start : Start) (words text : List ℕ) (old new : Ends) → old.left ≡ Some words → old.written ≡ Some [] → new.written ≡ Some text
-    → start.first < day_frames_in start.count → Stops (SaysMcc start) (IsWholeFile old.left) put.Done old new → IsMccImport text words
-said_all start words text old new left nothing put below stops =
-    let says = stops.says in
+-- words that are exported whole are imported
+whole_import : (start : Start) (others : List Frame) (words text : List ℕ) → start.first < day_frames_in start.count → IsFileUnder caption_channel others words
+    → SaysMcc start words text → length words ≤ words_limit → IsMccImport text words
+whole_import start others words text below file says within =
     let are = says.frames_are in
-    let same = known_whole old.left words stops.judged left stops.cause.0.0 in
-    let (others, file) = stops.cause.1 in
-    let most = are.longest others stops.judged [] (sym (append-nil stops.judged)) file in
-    let all : are.file ≡ words = all_of are.file are.behind stops.judged are.spelled most ∙ sym same in
-    let written : text ≡ stops.text = put_known old.written new.written text stops.text nothing put stops.output in
-    let within = stops.within in
-    let size = ap length (all ∙ same) in
-    let is = exported_import start says.frames are.file stops.text are.is_file below says.mcc (omega (arith, within, size)) in
-    subst (λ (w : List ℕ). IsMccImport text w) all (subst (λ (b : List ℕ). IsMccImport b are.file) (sym written) is)
+    let most = are.longest others words [] (sym (append-nil words)) file in
+    let all : are.file ≡ words = all_of are.file are.behind words are.spelled most in
+    let size = ap length all in
+    subst (λ (w : List ℕ). IsMccImport text w) all (exported_import start says.frames are.file text are.is_file below says.mcc (omega (arith, within, size)))
+
+said_import : (start : Start) (words text : List ℕ) → start.first < day_frames_in start.count → ExportMccVerdict start words status.Ok text → IsMccImport text words
+said_import start words text below (inl (within, (others, file, says))) = whole_import start others words text below file says within
+said_import start words text below (inr (inl (refused, says))) = absurd refused
+said_import start words text below (inr (inr (judged, rest, is, within, halts))) = absurd halts.at.is
 
 pub come_back : WordsComeBack
-come_back start words text old new answer below e within read answered =
-    file_imported text words old new answer (said_all start words text e.old e.new e.left e.nothing e.put below e.answer.1) within read answered
+come_back start words text below made within =
+    let is = said_import start words text below made in
+    record { is = (within, is); just = λ others also. one_import text others words also.1 is }

@@ -1,11 +1,11 @@
 -- Believed: the program's answer stands on these definitions.
--- What `export-mcc` answers: the MCC file of the packets of a words file, or why the run stopped, and with what text before.
+-- What `export-mcc` makes of words: the MCC file of the packets of a words file, or why the run stopped, and with what text before.
 use Rattle.std.specs.Prelude.{◌≡◌, ℕ, List, ◌++◌}
 use Rattle.anc_words.specs.Packets.{AncillaryPacket}
 use Rattle.anc_words.specs.WordsFiles.{IsPacketBytes}
 use Rattle.cdp_packets.specs.Packets.{Frame}
-use Rattle.command_base.specs.Ends.{Ends}
 use Rattle.command_base.specs.declared.status.Status.{Status}
+use Rattle.command_base.specs.declared.status.Status.TheVariants as status
 use Rattle.mcc_files.specs.Writing.{IsWrittenFile}
 use Rattle.services_files.specs.CaptionChannel.{caption_channel}
 use Rattle.time_codes.specs.Countings.{frame_number_in}
@@ -13,7 +13,7 @@ use Rattle.time_codes.specs.declared.counting.Counting.{Counting}
 use Rattle.time_codes.specs.declared.time_code.TimeCode.{TimeCode}
 use Rattle.words_files.specs.FramesOf.{AreFramesOf}
 use Rattle.words_files.specs.Offences.{IsFileUnder, IsUnoffending}
-use Rattle.words_reading.specs.Answers.{FileAnswer}
+use Rattle.words_reading.specs.WordsVerdict.{OfFile, WordsVerdict}
 use Rattle.mcc_commands.specs.Exported.{AreExportedAsMcc, StopsAtPacket}
 use Rattle.mcc_commands.specs.Placing.{placed}
 use Rattle.mcc_commands.specs.declared.start.Start.{Start}
@@ -51,6 +51,11 @@ pub record HaltsMcc (start : Start) (why : Status) (bytes text : List ℕ) : Typ
   pub at : StopsBehind start why bytes
   pub written : IsWrittenFile start.count (placed start.first at.is_file.file.packets) text
 
--- what `export-mcc` answers
-abbrev pub ExportMccAnswer : Start → Ends → Ends → Status → Type 0
-ExportMccAnswer start old new answer = FileAnswer (SaysMcc start) (SaysMcc start) (HaltsMcc start) old new answer
+-- or the MCC file is that of a whole words file
+abbrev pub ExportMccEnd : Start → Status → List ℕ → List ℕ → Type 0
+ExportMccEnd start status.Ok input text = OfFile (λ frames. SaysMcc start input text) input
+ExportMccEnd start _ input text = ⊥
+
+-- `export-mcc`
+abbrev pub ExportMccVerdict : Start → List ℕ → Status → List ℕ → Type 0
+ExportMccVerdict start = WordsVerdict (ExportMccEnd start) (SaysMcc start) (HaltsMcc start)

@@ -1,19 +1,15 @@
 -- Believed: the program's answer stands on these definitions.
--- What `import-mcc` answers: the words of the packets of an MCC file, with frames without captions where some are missing, or why the run
--- stopped, and with what words before.
-use Rattle.std.specs.Prelude.{◌≡◌, ◌⊎◌, ℕ, List, [], ◌∷◌, ◌++◌, Option}
-use Rattle.cc_base.specs.Streams.{Rose}
+-- What `import-mcc` makes of its input: the words of the packets of an MCC file, with frames without captions where some are missing, or
+-- why it stops, and with what words before.
+use Rattle.std.specs.Prelude.{◌≡◌, ◌<◌, ◌≤◌, ◌⊎◌, ℕ, List, [], ◌∷◌, ◌++◌, length}
 use Rattle.cc_base.specs.declared.limit_of.LimitOf.TheVariants as limit
 use Rattle.cc_base.specs.declared.refusal.Refusal.{Refusal}
-use Rattle.cc_base.specs.declared.streams.Put.TheVariants as put
-use Rattle.command_base.specs.Ends.{Ends, IsSteady}
 use Rattle.command_base.specs.declared.status.Place.TheVariants.{Byte}
 use Rattle.command_base.specs.declared.status.Status.{Status}
 use Rattle.command_base.specs.declared.status.Status.TheVariants as status
 use Rattle.scc_files.specs.Offences.{EndsLine}
-use Rattle.words_reading.specs.Causes.{Cause, IsAnyhow, IsWholeInput, HasNoOffence, PassesLimit}
-use Rattle.words_reading.specs.Judging.{SaysFront}
-use Rattle.words_reading.specs.Reading.{Stops}
+use Rattle.words_reading.specs.Causes.{words_limit}
+use Rattle.words_reading.specs.WordsVerdict.{StopsWithin, admitted}
 use Rattle.mcc_commands.specs.Imported.{IsMccImport, PassesAtPacket, SaysLines}
 use Rattle.mcc_commands.specs.Offences.{IsMccCutShort, IsWithoutOffence, Offends}
 use Rattle.mcc_commands.specs.declared.import_stop.MccStop.{MccStop}
@@ -36,27 +32,22 @@ HaltsImport (stop.Passes which) bytes text = PassesAtPacket which bytes text
 abbrev pub SaysImport : List ℕ → List ℕ → Type 0
 SaysImport bytes text = SaysLines bytes text ⊎ IsMccImport bytes text
 
--- the whole input ends too soon
-abbrev pub EndsInput : Refusal → Option (List ℕ) → Cause
-EndsInput refusal left judged unjudged = IsWholeInput left judged unjudged × IsMccCutShort judged refusal
+-- the run stops so at the end of a line, or of the input
+abbrev pub StopsAtLine : (List ℕ → List ℕ → Type 0) → List ℕ → List ℕ → Type 0
+StopsAtLine Halts input text =
+    (judged rest : List ℕ) × (input ≡ judged ++ rest) × (length judged ≤ words_limit) × Halts judged text × (EndsLine judged ⊎ (rest ≡ []))
 
--- the bytes judged end with a line: by its line end, or by the end of the whole input
-abbrev pub HasEndedLine : Option (List ℕ) → Cause
-HasEndedLine left judged unjudged = EndsLine judged ⊎ IsWholeInput left judged unjudged
-
--- what `import-mcc` answers
-abbrev pub ImportMccAnswer : Ends → Ends → Status → Type 0
-ImportMccAnswer old new status.Ok = IsSteady old new × Stops IsMccImport (IsWholeInput old.left) put.Done old new
-ImportMccAnswer old new status.ReadFault =
-    Rose old.read_faults new.read_faults × (new.write_faults ≡ old.write_faults) × Stops SaysLines (HasNoOffence IsWithoutOffence) put.Done old new
-ImportMccAnswer old new status.WriteFault =
-    (new.read_faults ≡ old.read_faults) × Rose old.write_faults new.write_faults × Stops (SaysFront SaysImport HaltsImport) IsAnyhow put.Failed old new
-ImportMccAnswer old new status.Memory = new ≡ old
-ImportMccAnswer old new (status.Limit limit.Bytes) =
-    IsSteady old new
-    × (Stops SaysLines (PassesLimit IsWithoutOffence) put.Done old new ⊎ Stops (PassesAtPacket limit.Bytes) (HasEndedLine old.left) put.Done old new)
-ImportMccAnswer old new (status.Limit limit.Frames) = IsSteady old new × Stops (PassesAtPacket limit.Frames) (HasEndedLine old.left) put.Done old new
-ImportMccAnswer old new (status.Malformed (Byte place) why) =
+-- `import-mcc`
+abbrev pub ImportMccVerdict : List ℕ → Status → List ℕ → Type 0
+ImportMccVerdict input status.Ok text = (length input ≤ words_limit) × IsMccImport input text
+ImportMccVerdict input status.ReadFault text = (length input ≤ words_limit) × IsWithoutOffence input × SaysLines input text
+ImportMccVerdict input status.WriteFault text =
+    StopsWithin SaysImport input text ⊎ ((why : MccStop) × StopsWithin (HaltsImport why) input text)
+ImportMccVerdict input (status.Limit limit.Bytes) text =
+    ((words_limit < length input) × IsWithoutOffence (admitted input) × SaysLines (admitted input) text)
+    ⊎ StopsAtLine (PassesAtPacket limit.Bytes) input text
+ImportMccVerdict input (status.Limit limit.Frames) text = StopsAtLine (PassesAtPacket limit.Frames) input text
+ImportMccVerdict input (status.Malformed (Byte place) why) text =
     let refusal : Refusal = record { place = place; why = why } in
-    IsSteady old new × (Stops (RefusesAt refusal) IsAnyhow put.Done old new ⊎ Stops SaysLines (EndsInput refusal old.left) put.Done old new)
-ImportMccAnswer old new _ = ⊥
+    StopsWithin (RefusesAt refusal) input text ⊎ ((length input ≤ words_limit) × IsMccCutShort input refusal × SaysLines input text)
+ImportMccVerdict input _ text = ⊥

@@ -1,6 +1,6 @@
 -- Between crates: the program's answer stands on none of these definitions.
 -- An import on its way: what was read of the file, which words were heard, and what was made of the packets.
-use Rattle.std.specs.Prelude.{◌≡◌, ◌≤◌, ◌<◌, ◌+◌, ◌*◌, ℕ, List, [], ◌∷◌, ◌++◌, length, take, Option, IfSome, Result, Ok, Err}
+use Rattle.std.specs.Prelude.{◌≡◌, ◌≤◌, ◌<◌, ◌+◌, ◌*◌, ◌⊎◌, ℕ, List, [], ◌∷◌, ◌++◌, length, take, Option, IfSome, Result, Ok, Err}
 use Rattle.anc_words.specs.Writing.{packet_bytes}
 use Rattle.cc_base.specs.Rate.{triplets_in_frame}
 use Rattle.std.specs.Io.KnownBytes.{Appends, Consumes}
@@ -35,7 +35,7 @@ use Rattle.words_reading.specs.Judging.{SaysFront}
 use Rattle.words_reading.specs.Reading.{Stops}
 use Rattle.words_reading.specs.declared.judge.Stop.{Stop}
 use Rattle.words_reading.specs.declared.judge.Stop.TheVariants as stopped
-use Rattle.mcc_commands.specs.ImportMcc.{EndsInput, HaltsImport, HasEndedLine, SaysImport}
+use Rattle.mcc_commands.specs.ImportMcc.{HaltsImport, SaysImport}
 use Rattle.mcc_commands.specs.Imported.{AreEndedLines, AreWithinImport, IsMccImport, PassesAtPacket, PassesWith, SaysLines, frames_put, most_imported_frames}
 use Rattle.mcc_commands.specs.Offences.{IsMccCutShort, ItemWordOffends, NoWordOffends, IsWithoutOffence}
 use Rattle.mcc_commands.specs.Words.{state_words, words_with}
@@ -156,6 +156,14 @@ abbrev pub JudgesItem : List ℕ → TimedPackets → ℕ → Importing → Impo
 JudgesItem bytes placed byte old new (Ok done) =
     (new.reader ≡ old.reader) × (new.made ≡ old.made) × (new.place ≡ old.place) × HasHeard (words_with (state_of old.reader placed) (step_item old.reader byte)) new.hearer
 JudgesItem bytes placed byte old new (Err why) = (refusal : Refusal) × (why ≡ stop.Offends refusal) × ItemWordOffends (bytes ++ byte ∷ []) refusal
+
+-- the whole input ends too soon
+abbrev pub EndsInput : Refusal → Option (List ℕ) → Cause
+EndsInput refusal left judged unjudged = IsWholeInput left judged unjudged × IsMccCutShort judged refusal
+
+-- the bytes judged end with a line: by its line end, or by the end of the whole input
+abbrev pub HasEndedLine : Option (List ℕ) → Cause
+HasEndedLine left judged unjudged = EndsLine judged ⊎ IsWholeInput left judged unjudged
 
 -- where a limit is passed with a packet, its line has ended: within the bytes by its line end, or with the whole input
 abbrev pub HaltsBehind : MccStop → List ℕ → Type 0

@@ -2,7 +2,6 @@ pub mod Placing
 pub mod Exported
 pub mod ExportMcc
 pub mod ExportSteps
-pub mod ExportVerdict
 pub mod Offences
 pub mod Imported
 pub mod ImportMcc
@@ -10,6 +9,6 @@ pub mod Words
 pub mod Importing
 pub mod Stops
 pub mod Imports
-pub mod ImportVerdict
+pub mod EveryInput
 pub mod Standing
 pub mod RoundTrip

@@ -1,7 +1,8 @@
 ghost use Rattle.std.specs.Prelude.{◌≡◌, true};
 ghost use Rattle.command_base.specs.Ends.{ends};
+ghost use Rattle.command_base.specs.Realises.{RealisesLeaving};
 ghost use Rattle.time_codes.specs.Countings.{is_time_code_in};
-ghost use Rattle.mcc_commands.specs.ExportMcc.{ExportMccAnswer, start_at};
+ghost use Rattle.mcc_commands.specs.ExportMcc.{ExportMccVerdict, start_at};
 
 use crate::exporting::Exporting;
 use crate::start::Start;
@@ -28,7 +29,7 @@ pub fn run_export_mcc<M: Source, O: Sink>(
     out: &mut O,
 ) -> Status
     requires { is_time_code_in count time ≡ true }
-    ensures { ExportMccAnswer (start_at count time)
+    ensures { RealisesLeaving (ExportMccVerdict (start_at count time))
         (ends (M.left input.old) (M.faults input.old) (O.written out.old) (O.faults out.old))
         (ends (M.left input.new) (M.faults input.new) (O.written out.new)
         (O.faults out.new)) result }

@@ -3,7 +3,6 @@ ghost use Rattle.std.specs.Prelude.{◌≡◌, ◌<◌, List, ℕ};
 ghost use Rattle.cdp_packets.specs.Packets.{Frame};
 ghost use Rattle.mcc_commands.specs.ExportMcc.{IsMccOf};
 ghost use Rattle.mcc_commands.specs.Placing.{placed};
-ghost use Rattle.mcc_commands.specs.ExportVerdict.{FileIsExported, LongIsAnswered, MalformedIsAnswered, StopIsAnswered};
 ghost use Rattle.mcc_commands.specs.declared.start.Start.{Start as StartOf};
 ghost use Rattle.mcc_files.specs.MccFiles.{IsMccFile, TimedPackets};
 ghost use Rattle.mcc_words.specs.MccWords.{AreMccWords};
@@ -27,28 +26,4 @@ pub fn exported_words_are_imported()
         (is_file : IsFileUnder caption_channel frames file) (other : TimedPackets)
         → start.first < day_frames_in start.count → IsMccOf start frames file is_file text
         → IsMccFile other text → AreMccWords other words → words ≡ file }
-{}
-
-/// The law that `export-mcc` answers Ok, or Memory, to a words file within the limit whose packets are exported, where no count of faults
-/// rose.
-pub fn file_is_exported()
-    ensures { FileIsExported }
-{}
-
-/// The law that it answers malformed words within the limit whose packets are exported with their one refusal, or Memory, where no count of
-/// faults rose.
-pub fn malformed_is_answered()
-    ensures { MalformedIsAnswered }
-{}
-
-/// The law that it answers words within the limit with a packet at which an export stops, and at none before it, with just that, or Memory,
-/// where no count of faults rose, whatever follows the packet.
-pub fn stop_is_answered()
-    ensures { StopIsAnswered }
-{}
-
-/// The law that it answers words past the limit whose packets within it are exported with the first offending word within the limit, where
-/// there is one, and else with the limit, or with Memory, where no count of faults rose.
-pub fn long_is_answered()
-    ensures { LongIsAnswered }
 {}

@@ -1,7 +1,8 @@
 ghost use Rattle.std.specs.Prelude.{◌≡◌, [], length};
 ghost use Rattle.command_base.specs.Ends.{ends};
+ghost use Rattle.command_base.specs.Realises.{RealisesLeaving};
 ghost use Rattle.text_output.specs.Gathered.{held_of};
-ghost use Rattle.mcc_commands.specs.ImportMcc.{ImportMccAnswer};
+ghost use Rattle.mcc_commands.specs.ImportMcc.{ImportMccVerdict};
 ghost use Rattle.mcc_commands.specs.Importing.{HasImported, PutsRest, ReadsFile};
 
 use crate::import_stop::MccStop;
@@ -19,7 +20,7 @@ use words_reading::{Stop, TAKE, WORDS_LIMIT};
 /// put. Limit (Frames) comes at a packet of captions with which more than 5,184,000 frames would be put, and Limit (Bytes) at a packet with
 /// which more than 2,147,483,647 bytes would be, and at the byte behind as many of the file; then nothing of the packet is put.
 pub fn run_import_mcc<M: Source, O: Sink>(alloc: Global, input: &mut M, out: &mut O) -> Status
-    ensures { ImportMccAnswer
+    ensures { RealisesLeaving ImportMccVerdict
         (ends (M.left input.old) (M.faults input.old) (O.written out.old) (O.faults out.old))
         (ends (M.left input.new) (M.faults input.new) (O.written out.new)
         (O.faults out.new)) result }

@@ -2,7 +2,7 @@
 
 ghost use Rattle.mcc_commands.specs.Imports.{ImportsAreOne, NothingOffendsInImports, OffencesAreOne, OffencesStay, PacketsGoOn, WordsAreOne, WordsGoOn};
 ghost use Rattle.mcc_commands.specs.Standing.{ImportsAreWordsFiles, ImportsStandApart, ImportsStandAtTheirFrames};
-ghost use Rattle.mcc_commands.specs.ImportVerdict.{EveryInputIsOne, FileIsImported, FirstOffenceIsAnswered, LimitIsAnswered, LongIsAnswered, OthersAreRefused, RefusalsAreFirst};
+ghost use Rattle.mcc_commands.specs.EveryInput.{EveryInputIsOne};
 
 /// The words of an MCC file's packets are one list of bytes, and where more packets stand behind packets, their words begin with the words
 /// of these.
@@ -41,35 +41,4 @@ pub fn offences_are_one()
 /// a limit is passed.
 pub fn every_input_is_imported_or_offends_or_passes_a_limit()
     ensures { EveryInputIsOne }
-{}
-
-/// The law that `import-mcc` answers Ok to an MCC file within the limits whose words are a words file, and has then put the words of its
-/// packets, or Memory, where no count of faults rose.
-pub fn file_is_imported()
-    ensures { FileIsImported }
-{}
-
-/// The law that it answers bytes with a first offence, within which no limit is passed, with just that, or Memory, where no count of faults
-/// rose.
-pub fn first_offence_is_answered()
-    ensures { FirstOffenceIsAnswered }
-{}
-
-/// The law that it names nothing but the first offence of its input, and names that of an input that is no import and within which no limit
-/// is passed, or answers Memory, where no count of faults rose.
-pub fn refusals_are_first()
-    ensures first { RefusalsAreFirst }
-    ensures others { OthersAreRefused }
-{}
-
-/// The law that it answers bytes with the line of a packet with which a limit is passed with just that limit, or Memory, where no count of
-/// faults rose, whatever follows the line, which ends within as many bytes as are read.
-pub fn limit_is_answered()
-    ensures { LimitIsAnswered }
-{}
-
-/// The law that it answers bytes past the limit with what offends first within it, where something does, and else with the limit, or with
-/// Memory, where no count of faults rose and no limit is passed at a packet within it.
-pub fn long_is_answered()
-    ensures { LongIsAnswered }
 {}

@@ -8,8 +8,8 @@ pub fn exported_files_are_imports()
     ensures { ExportedFilesAreImports }
 {}
 
-/// What `export-mcc` put with the answer Ok, where it has no more bytes than the limit, `import-mcc` answers Ok where no count of faults
-/// rose, and has then put the words of which it was put, byte for byte; or memory is wanting.
+/// What `export-mcc` makes of words with the answer Ok, where it has no more bytes than the limit, `import-mcc` makes with the answer Ok
+/// these words of, byte for byte, and no others.
 pub fn words_come_back()
     ensures { WordsComeBack }
 {}

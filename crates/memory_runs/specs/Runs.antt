@@ -3,7 +3,7 @@
 use Rattle.std.specs.Prelude.{ℕ, List, [], Option, Some, map}
 use Rattle.cc_base.specs.MemorySink.{sink_faults, sink_written}
 use Rattle.command_base.specs.Ends.{ends}
-use Rattle.cue_list_commands.specs.SideEnds.{SideEnds, side_ends}
+use Rattle.command_base.specs.SideEnds.{SideEnds, side_ends}
 use Rattle.ccsuite_cli.specs.Answer.{Answer}
 use Rattle.ccsuite_cli.specs.Command.{command_of}
 use Rattle.ccsuite_cli.specs.StatusLine.{PutsLine}

@@ -1,5 +1,5 @@
 -- What `export` answers where a words file was read, or the reading of it stopped before.
-use Rattle.std.proofs.Common.{◌≡◌, ◌∙◌, ◌++◌, ap, append-nil, arith, inl, inr, refl, subst, sym, ℕ, List, [], Option}
+use Rattle.std.proofs.Common.{◌≡◌, ◌∙◌, ◌++◌, ap, append-nil, arith, inl, refl, subst, sym, ℕ, List, [], Option}
 use Rattle.cc_base.proofs.Puts.{puts_then}
 use Rattle.cc_base.specs.Streams.{Puts, Rose}
 use Rattle.cc_base.specs.declared.streams.Put.{Put}
@@ -14,19 +14,20 @@ use Rattle.scc_files.specs.declared.writer.SccWriter.{SccWriter}
 use Rattle.services_files.specs.CaptionChannel.{caption_channel}
 use Rattle.time_codes.specs.declared.time_code.TimeCode.{TimeCode}
 use Rattle.words_files.proofs.FramesOfLemmas.{file_frames}
-use Rattle.words_reading.proofs.AnswersLemmas.{stop_answered_as}
-use Rattle.words_reading.proofs.EarlyLemmas.{early_answered}
+use Rattle.cc_base.specs.declared.refusal.Refusal.{Refusal}
+use Rattle.command_base.proofs.RealisedLemmas.{IsPlain}
+use Rattle.words_files.specs.Offences.{FirstOffendingWord}
+use Rattle.words_reading.proofs.WordsLemmas.{failed_realised, frames_stay, said_of, stopped_realised, unwritten_realised, whole_realised}
+use Rattle.command_base.specs.Realises.{RealisesLeaving}
 use Rattle.words_reading.proofs.FrameLemmas.{nothing_judged}
 use Rattle.words_reading.proofs.PieceLemmas.{nothing_taken}
-use Rattle.words_reading.specs.Answers.{IsOwn, StopsEarlyAs}
 use Rattle.words_reading.specs.Causes.{IsWholeFile}
 use Rattle.words_reading.specs.FramesRead.{HasJudgedFrames, receiver_of}
 use Rattle.words_reading.specs.Reading.{Stops, StopsEarly as Stopped}
 use Rattle.words_reading.specs.Statuses.{stop_status}
 use Rattle.words_reading.specs.declared.frames.Frames.{Frames}
 use Rattle.words_reading.specs.declared.judge.Stop.{Stop}
-use Rattle.words_reading.specs.declared.judge.Stop.TheVariants as stop
-use Rattle.scc_commands.specs.Export.{AreExported, ExportAnswer, ExportHalts, IsExportOf, export_file, export_front, exported, first_standing, stand_after}
+use Rattle.scc_commands.specs.Export.{AreExported, ExportEnd, ExportHalts, ExportVerdict, IsExportOf, export_file, export_front, exported, first_standing, stand_after}
 use Rattle.scc_commands.specs.Exporting.{StandsBehind, reason_status}
 use Rattle.scc_commands.specs.declared.exporting.ExportStop.{ExportStop}
 use Rattle.scc_commands.specs.declared.exporting.ExportStop.TheVariants as reason
@@ -44,48 +45,46 @@ nothing_exported time reading writer received is stands =
     nothing_judged (export_front time) (StandsBehind time) head_text reading received
     (record { are_exported = none_exported time; writer = ap (λ (m : Exporting). standing_of m.writer) is ∙ stands }) (sym (append-nil head_text))
 
+stays : (time : TimeCode) (judged more text : List ℕ) (refusal : Refusal) → FirstOffendingWord caption_channel judged refusal → IsExportOf time export_front judged text
+    → IsExportOf time export_front (judged ++ more) text
+stays time = frames_stay (export_front time) (AreExported time)
+
+abbrev Halts : TimeCode → ExportStop → List ℕ → List ℕ → Type 0
+Halts time why = ExportHalts time (reason_status why)
+
 -- the head of the file wasn't put whole
 pub head_failed : (time : TimeCode) (first start then : Option (List ℕ)) (reads writes still : ℕ) → Puts start then put.Failed head_text → Rose writes still
-    → ExportAnswer time (ends first reads start writes) (ends first reads then still) status.WriteFault
+    → RealisesLeaving (ExportVerdict time) (ends first reads start writes) (ends first reads then still) status.WriteFault
 head_failed time first start then reads writes still failed rose =
-    inl (
-      refl,
-      rose,
-      record {
-        judged = [];
-        unjudged = [];
-        text = head_text;
-        taken = nothing_taken first;
-        within = omega arith;
-        says = inl (record { frames = []; frames_are = file_frames caption_channel [] [] nothing_is_file; fit = none_exported time; text_is = sym (append-nil head_text) });
-        cause = tt;
-        output = failed;
-      },
-    )
+    failed_realised (IsExportOf time export_front) (ExportEnd time) (ExportHalts time) (stays time) (Halts time) reason_status (λ why bytes text halts. halts)
+    (ends first reads start writes) (ends first reads then still) refl rose
+    (record {
+      judged = [];
+      unjudged = [];
+      text = head_text;
+      taken = nothing_taken first;
+      within = omega arith;
+      says = inl (record { frames = []; frames_are = file_frames caption_channel [] [] nothing_is_file; fit = none_exported time; text_is = sym (append-nil head_text) });
+      cause = tt;
+      output = failed;
+    })
 
 -- a reading that stopped before the end of the file
 abbrev HasStopped : TimeCode → Ends → Ends → Stop ExportStop → Type 0
-HasStopped time old new why = Stopped (IsExportOf time export_front) (λ reason. ExportHalts time (reason_status reason)) old new why
+HasStopped time old new why = Stopped (IsExportOf time export_front) (Halts time) old new why
 
-is_own : (why : ExportStop) → IsOwn (reason_status why)
-is_own (reason.Found finding) = tt
-is_own reason.Day = tt
-
-stopped_early : (time : TimeCode) (old new : Ends) (why : Stop ExportStop) → HasStopped time old new why
-    → StopsEarlyAs (IsExportOf time export_front) (ExportHalts time) old new (stop_status reason_status why)
-stopped_early time old new why stops =
-    stop_answered_as (IsExportOf time export_front) (λ reason. ExportHalts time (reason_status reason)) (ExportHalts time) reason_status is_own (λ reason bytes text halts. halts) old new why stops
+is_plain : (why : ExportStop) → IsPlain (reason_status why)
+is_plain (reason.Found finding) = tt
+is_plain reason.Day = tt
 
 -- is answered so
 pub export_stopped : (time : TimeCode) (first left start now : Option (List ℕ)) (reads later writes began still : ℕ) (why : Stop ExportStop) (answer : Status) → began ≡ writes
     → HasStopped time (ends first reads start began) (ends left later now still) why → answer ≡ stop_status reason_status why
-    → ExportAnswer time (ends first reads start writes) (ends left later now still) answer
+    → RealisesLeaving (ExportVerdict time) (ends first reads start writes) (ends left later now still) answer
 export_stopped time first left start now reads later writes began still why answer same stops is =
-    subst (λ n. ExportAnswer time (ends first reads start n) (ends left later now still) answer) same
-    (subst (ExportAnswer time (ends first reads start began) (ends left later now still)) (sym is)
-    (early_answered (IsExportOf time export_file) (IsExportOf time export_front) (ExportHalts time) (ends first reads start began) (ends left later now still)
-    (stop_status reason_status why)
-    (stopped_early time (ends first reads start began) (ends left later now still) why stops)))
+    subst (λ n. RealisesLeaving (ExportVerdict time) (ends first reads start n) (ends left later now still) answer) same
+    (stopped_realised (IsExportOf time export_front) (ExportEnd time) (ExportHalts time) (stays time) (Halts time) reason_status (λ why bytes text halts. halts) is_plain
+    (ends first reads start began) (ends left later now still) why answer stops is)
 
 -- the words were read to their end
 abbrev HasEnded : TimeCode → Frames Exporting → Ends → Ends → Type 0
@@ -117,18 +116,19 @@ end_put time reading first left start now then reads later writes began still la
 
 pub export_done : (time : TimeCode) (reading : Frames Exporting) (first left start now then : Option (List ℕ)) (reads later writes began still last : ℕ) (ending : List ℕ)
     → began ≡ writes → HasEnded time reading (ends first reads start began) (ends left later now still) → ending ≡ end_text reading.maker.writer.behind
-    → Puts now then put.Done ending → last ≡ still → ExportAnswer time (ends first reads start writes) (ends left later then last) status.Ok
-export_done time reading first left start now then reads later writes began still last ending began_is ended is line same = (
-  record { reads = ended.0.reads; writes = same ∙ ended.0.writes ∙ began_is },
-  end_put time reading first left start now then reads later writes began still last ending put.Done ended is line,
-)
+    → Puts now then put.Done ending → last ≡ still → RealisesLeaving (ExportVerdict time) (ends first reads start writes) (ends left later then last) status.Ok
+export_done time reading first left start now then reads later writes began still last ending began_is ended is line same =
+    whole_realised (ExportEnd time) (IsExportOf time export_front) (ExportHalts time) (IsExportOf time export_file) (said_of (export_file time) (AreExported time))
+    (ends first reads start writes) (ends left later then last) (
+      record { reads = ended.0.reads; writes = same ∙ ended.0.writes ∙ began_is },
+      end_put time reading first left start now then reads later writes began still last ending put.Done ended is line,
+    )
 
 pub export_unwritten : (time : TimeCode) (reading : Frames Exporting) (first left start now then : Option (List ℕ)) (reads later writes began still last : ℕ) (ending : List ℕ)
     → began ≡ writes → HasEnded time reading (ends first reads start began) (ends left later now still) → ending ≡ end_text reading.maker.writer.behind
-    → Puts now then put.Failed ending → Rose still last → ExportAnswer time (ends first reads start writes) (ends left later then last) status.WriteFault
+    → Puts now then put.Failed ending → Rose still last → RealisesLeaving (ExportVerdict time) (ends first reads start writes) (ends left later then last) status.WriteFault
 export_unwritten time reading first left start now then reads later writes began still last ending began_is ended is line rose =
-    inr (
-      ended.0.reads,
-      subst (λ n. Rose n last) (ended.0.writes ∙ began_is) rose,
-      end_put time reading first left start now then reads later writes began still last ending put.Failed ended is line,
-    )
+    unwritten_realised (ExportEnd time) (IsExportOf time export_front) (ExportHalts time) (IsExportOf time export_file) (said_of (export_file time) (AreExported time))
+    (ends first reads start writes) (ends left later then last)
+    ended.0.reads (subst (λ n. Rose n last) (ended.0.writes ∙ began_is) rose)
+    (end_put time reading first left start now then reads later writes began still last ending put.Failed ended is line)

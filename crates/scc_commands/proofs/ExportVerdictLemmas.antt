@@ -1,24 +1,29 @@
--- The verdict of an export.
-use Rattle.std.proofs.Common.{◌≡◌, ◌∙◌, ◌+◌, ◌++◌, ap, arith, length, subst, suc, sym, ℕ, List, [], ◌∷◌, false, true}
+-- Of words `export` makes one status, and of all words it makes one.
+use Rattle.std.proofs.Common.{◌≡◌, ◌∙◌, ◌<◌, ◌≤◌, ◌⊎◌, ◌+◌, ◌++◌, ap, arith, inl, inr, length, refl, subst, suc, sym, ℕ, Bool, List, [], ◌∷◌, false, true}
+use Rattle.findings.specs.declared.finding.Finding.{Finding}
+use Rattle.words_files.specs.Offences.{IsFileUnder}
+use Rattle.command_base.specs.Exact.{HasVerdict, IsFault, IsOne}
+use Rattle.words_reading.proofs.EveryLemmas.{HaltsIn, IsSaid, every_words}
+use Rattle.words_reading.proofs.WordsLemmas.{said_of}
+use Rattle.words_reading.proofs.FrameFrontLemmas.{frames_judged}
+use Rattle.words_reading.proofs.HaltLemmas.{frames_one, halted_at, said_fit}
+use Rattle.std.proofs.lemmas.Bool.{cases_lt}
+use Rattle.std.specs.Prelude.{◌≢◌}
+use Rattle.cc_base.specs.declared.rate.Rate.{Rate}
+use Rattle.cc_base.specs.declared.rate.Rate.TheVariants as rate
+use Rattle.line21_codes.specs.declared.pairs.Pair.{Pair}
 use Rattle.cc_base.specs.declared.limit_of.LimitOf.TheVariants as limit
 use Rattle.cdp_packets.specs.Packets.{Frame}
-use Rattle.command_base.specs.Counts.{IsReadOf}
-use Rattle.command_base.specs.Ends.{Ends}
 use Rattle.command_base.specs.declared.status.Status.{Status}
 use Rattle.command_base.specs.declared.status.Status.TheVariants as status
 use Rattle.findings.specs.declared.finding.Kind45.{Kind45}
 use Rattle.findings.specs.declared.finding.Kind45.TheVariants as kind
 use Rattle.scc_files.specs.Writing.{is_past_day}
 use Rattle.time_codes.specs.declared.time_code.TimeCode.{TimeCode}
-use Rattle.words_files.proofs.FramesOfLemmas.{file_frames, frames_grow}
 use Rattle.words_files.specs.FramesOf.{AreFramesOf}
 use Rattle.services_files.specs.CaptionChannel.{caption_channel}
-use Rattle.words_reading.proofs.EarlyLemmas.{file_answers, malformed_answers, unless}
-use Rattle.words_reading.proofs.KnownLemmas.{known_judged}
-use Rattle.words_reading.specs.Answers.{StopsOwn}
-use Rattle.scc_commands.specs.Export.{AreExported, ExportHalts, HasFinding, HasNoFinding, IsExportOf, StandsPastDay, StopsAtFrame, export_file, export_front, exported_from, first_standing, pairs_of}
-use Rattle.scc_commands.proofs.WrittenLemmas.{AreWithinDay, HaveNoFinding, at_number}
-use Rattle.scc_commands.specs.ExportVerdict.{FileIsExported, MalformedIsNotExported}
+use Rattle.scc_commands.specs.Export.{AreExported, ExportEnd, ExportHalts, ExportVerdict, HasFinding, HasNoFinding, IsExportOf, StandsPastDay, StopsAtFrame, export_file, export_front, exported_from, first_standing, pairs_of}
+use Rattle.scc_commands.proofs.WrittenLemmas.{AreWithinDay, HaveNoFinding, at_number, exported_more, one_pair}
 use Rattle.scc_commands.specs.Import.{PlacedPairs}
 
 -- within the day, in front and behind
@@ -72,22 +77,104 @@ not_exported time frames more last (status.Limit limit.Day) stops good = day_end
 not_exported time frames more last (status.Limit _) stops good = stops
 not_exported time frames more last _ stops good = stops
 
--- no export of bytes whose frames are exported stops at a frame
-never_halts : (time : TimeCode) (bytes : List ℕ) (all : List Frame) (old new : Ends) (answer : Status) → AreFramesOf caption_channel all bytes → AreExported time all
-    → IsReadOf bytes old new → StopsOwn (ExportHalts time) old new answer → ⊥
-never_halts time bytes all old new answer are good read (own, steady, stops) =
-    let halts = stops.says in
-    let (rest, is) = known_judged old.left new.left bytes stops.judged stops.unjudged read.left stops.taken in
-    let (behind, grown) = frames_grow caption_channel (halts.frames ++ halts.last ∷ []) all stops.judged (stops.unjudged ++ rest) halts.frames_are
-    (subst (AreFramesOf caption_channel all) is are) in
-    not_exported time halts.frames behind halts.last answer halts.is (subst (AreExported time) grown good)
+-- what is found at a frame is one
+found_once : (frame : Frame) (one other : Kind45) → HasFinding frame one → HasFinding frame other → one ≡ other
+found_once frame (kind.WrongRate a b) (kind.WrongRate c d) has also = rw (has.0, has.1, also.0, also.1) refl
+found_once frame (kind.TwoPairs a) (kind.TwoPairs b) has also = ap kind.TwoPairs (has.1 ∙ sym also.1)
+found_once frame (kind.WrongRate a b) (kind.TwoPairs c) has also = absurd (has.2 also.0)
+found_once frame (kind.TwoPairs a) (kind.WrongRate c d) has also = absurd (also.2 has.0)
+found_once frame (kind.WrongRate a b) _ has also = absurd also
+found_once frame (kind.TwoPairs a) _ has also = absurd also
+found_once frame _ other has also = absurd has
 
-pub file_exported : FileIsExported
-file_exported time bytes frames old new answer file good within read answered =
-    unless (never_halts time bytes frames old new answer (file_frames caption_channel frames bytes file) good read)
-    (file_answers (IsExportOf time export_file) (IsExportOf time export_front) (ExportHalts time) bytes frames old new answer file within read answered)
+-- so is the status with which an export stops at it
+stop_once : (time : TimeCode) (number : ℕ) (frame : Frame) (one other : Status) → StopsAtFrame time number frame one → StopsAtFrame time number frame other → one ≡ other
+stop_once time number frame (status.Differs a) (status.Differs b) has also = ap status.Differs (same_finding a b (has.0 ∙ sym also.0) (found_once frame a.kind b.kind has.1 also.1))
+  where
+    same_finding : (x y : Finding) → x.frame ≡ y.frame → x.kind ≡ y.kind → x ≡ y
+    same_finding x y at found = rw (at, found) refl
+stop_once time number frame (status.Differs a) (status.Limit limit.Day) has also = absurd (not_found frame a.kind also.no_finding has.1)
+stop_once time number frame (status.Limit limit.Day) (status.Differs b) has also = absurd (not_found frame b.kind has.no_finding also.1)
+stop_once time number frame (status.Limit limit.Day) (status.Limit limit.Day) has also = refl
+stop_once time number frame (status.Differs a) (status.Limit _) has also = absurd also
+stop_once time number frame (status.Differs a) _ has also = absurd also
+stop_once time number frame (status.Limit limit.Day) (status.Limit _) has also = absurd also
+stop_once time number frame (status.Limit limit.Day) _ has also = absurd also
+stop_once time number frame (status.Limit _) other has also = absurd has
+stop_once time number frame _ other has also = absurd has
 
-pub malformed_not_exported : MalformedIsNotExported
-malformed_not_exported time bytes frames refusal old new answer are good malformed within read answered =
-    unless (never_halts time bytes frames old new answer are good read)
-    (malformed_answers (IsExportOf time export_file) (IsExportOf time export_front) (ExportHalts time) bytes refusal old new answer malformed within read answered)
+abbrev Reason : TimeCode → Status → List Frame → Frame → Type 0
+Reason time answer frames last = StopsAtFrame time (length frames) last answer
+
+export_ends : (time : TimeCode) (answer : Status) (input text : List ℕ) → ExportEnd time answer input text
+    → (answer ≡ status.Ok) × ((frames : List Frame) × IsFileUnder caption_channel frames input × AreExported time frames)
+export_ends time status.Ok input text (frames, file, is) = (refl, (frames, file, is.0))
+export_ends time _ input text ends = absurd ends
+
+pub export_one : (time : TimeCode) → IsOne (λ aside. ExportVerdict time)
+export_one time aside =
+    frames_one (AreExported time) (Reason time) (λ answer frames behind last. not_exported time frames behind last answer)
+    (λ frames last. stop_once time (length frames) last)
+    (ExportEnd time) (IsExportOf time export_front) (ExportHalts time)
+    (λ answer input text ends. (export_ends time answer input text ends).1)
+    (λ input one other text more first next. (export_ends time one input text first).0 ∙ sym (export_ends time other input more next).0)
+    (said_fit (export_front time) (AreExported time))
+    (λ answer. halted_at (export_front time) (AreExported time) (Reason time answer))
+
+-- of all words it makes one: a frame behind exported ones is exported, or an export stops at it
+right_or_wrong : (seen : Rate) → (seen ≡ rate.F2997) ⊎ (seen ≢ rate.F2997)
+right_or_wrong rate.F2997 = inl refl
+right_or_wrong rate.F23976 = inr (λ is. let clash : rate.F23976 ≡ rate.F2997 = is in cc)
+right_or_wrong rate.F24 = inr (λ is. let clash : rate.F24 ≡ rate.F2997 = is in cc)
+right_or_wrong rate.F25 = inr (λ is. let clash : rate.F25 ≡ rate.F2997 = is in cc)
+right_or_wrong rate.F30 = inr (λ is. let clash : rate.F30 ≡ rate.F2997 = is in cc)
+right_or_wrong rate.F50 = inr (λ is. let clash : rate.F50 ≡ rate.F2997 = is in cc)
+right_or_wrong rate.F5994 = inr (λ is. let clash : rate.F5994 ≡ rate.F2997 = is in cc)
+right_or_wrong rate.F60 = inr (λ is. let clash : rate.F60 ≡ rate.F2997 = is in cc)
+
+abbrev Decided : TimeCode → List Frame → Frame → Type 0
+Decided time earlier last = AreExported time (earlier ++ last ∷ []) ⊎ ((answer : Status) × Reason time answer earlier last)
+
+decides : (time : TimeCode) (earlier : List Frame) (last : Frame) → AreExported time earlier
+    → AreExported time (earlier ++ last ∷ []) ⊎ ((answer : Status) × Reason time answer earlier last)
+decides time earlier last fit = by_rate (right_or_wrong last.rate)
+  where
+    by_day : HasNoFinding last → (pair : Pair) → pairs_of last ≡ pair ∷ [] → (test : Bool) → is_past_day (first_standing time) (length earlier) pair ≡ test → Decided time earlier last
+    by_day none pair one true past = inr (status.Limit limit.Day, record { no_finding = none; pair = pair; is_pair = one; past = past })
+    by_day none pair one false within = inl (exported_more time earlier last (pair ∷ []) one none (within, tt) fit)
+
+    by_pairs : HasNoFinding last → (pairs : List Pair) → pairs_of last ≡ pairs → Decided time earlier last
+    by_pairs none [] is = inl (exported_more time earlier last [] is none tt fit)
+    by_pairs none (pair ∷ rest) is =
+        by_day none pair (one_pair (pairs_of last) pair rest is none.one) (is_past_day (first_standing time) (length earlier) pair) refl
+
+    by_count : last.rate ≡ rate.F2997 → (1 < length (pairs_of last)) ⊎ (length (pairs_of last) ≤ 1) → Decided time earlier last
+    by_count right (inr few) = by_pairs (record { rate_is = right; one = few }) (pairs_of last) refl
+    by_count right (inl many) =
+        inr (status.Differs (record { frame = length earlier; kind = kind.TwoPairs (length (pairs_of last)) }), (refl, (right, refl, many)))
+
+    by_rate : (last.rate ≡ rate.F2997) ⊎ (last.rate ≢ rate.F2997) → Decided time earlier last
+    by_rate (inl right) = by_count right (cases_lt 1 (length (pairs_of last)))
+    by_rate (inr wrong) = inr (status.Differs (record { frame = length earlier; kind = kind.WrongRate rate.F2997 last.rate }), (refl, (refl, refl, wrong)))
+
+-- no fault is a reason
+plain_stop : (time : TimeCode) (number : ℕ) (frame : Frame) (answer : Status) → StopsAtFrame time number frame answer → IsFault answer → ⊥
+plain_stop time number frame status.ReadFault stops fault = stops
+plain_stop time number frame status.WriteFault stops fault = stops
+plain_stop time number frame _ stops fault = fault
+
+judges : (time : TimeCode) (bytes : List ℕ) (frames : List Frame) → AreFramesOf caption_channel frames bytes
+    → IsSaid (ExportEnd time) (IsExportOf time export_front) (ExportHalts time) bytes ⊎ HaltsIn (ExportEnd time) (IsExportOf time export_front) (ExportHalts time) bytes
+judges time bytes frames are =
+    elim (frames_judged (AreExported time) (Reason time) (record { no_finding = tt; within_day = tt }) (decides time) (export_front time) bytes frames are) [
+      | inl fit ↦ inl (export_front time frames, record { frames = frames; frames_are = are; fit = fit; text_is = refl })
+      | inr (answer, text, judged, rest, is, halts) ↦
+          inr (answer, text, judged, rest, is, plain_stop time (length halts.frames) halts.last answer halts.is, halts)
+    ]
+
+pub every_export : (time : TimeCode) → HasVerdict (λ aside. ExportVerdict time)
+every_export time =
+    every_words (ExportEnd time) (IsExportOf time export_front) (ExportHalts time) (judges time)
+    (λ input text frames file says.
+    let (others, another, both) = said_of (export_front time) (AreExported time) frames input text file says in
+    (status.Ok, export_file time others, λ fault. fault, (others, another, (both.0, refl))))

@@ -24,7 +24,7 @@ use Rattle.scc_files.specs.SccFiles.{AreBytes, AreRising}
 use Rattle.scc_files.specs.declared.fault.SccFault.{SccFault}
 use Rattle.scc_files.specs.declared.fault.SccFault.TheVariants as fault
 use Rattle.command_base.proofs.WholeInputLemmas.{AreRefusals}
-use Rattle.command_base.specs.MakesAnswer.{PutsMade}
+use Rattle.command_base.proofs.MadeLemmas.{PutsMade}
 use Rattle.command_base.specs.WholeInput.{JudgesInput}
 use Rattle.command_base.specs.declared.status.Status.{Status}
 use Rattle.command_base.specs.declared.status.Status.TheVariants as status
@@ -202,17 +202,18 @@ pub columns_bytes : (pairs : PlacedPairs) → AreBytes pairs → AreBytePairs (i
 columns_bytes pairs are One frame = pair_bytes pairs frame are
 columns_bytes pairs are Two frame = record { a = omega arith; b = omega arith }
 
--- the words of a file were put, or a front of them
+-- the words of a file within the limits carry just its pairs
+pub carried_import : (bytes : List ℕ) (pairs : PlacedPairs) → IsImport bytes pairs → IsCarriedImport pairs
+carried_import bytes pairs is =
+    frames_carried rate.F2997 (import_columns pairs) (frames_of pairs) (columns_bytes pairs (file_bytes pairs bytes is.file))
+    (quiet_bytes (import_columns pairs) (λ frame. refl)) (quiet_roomy rate.F2997 (import_columns pairs) (λ frame. refl))
+
+-- they were put, or a front of them
 pub import_put : (answer : Put) (left old new : Option (List ℕ)) (pairs : PlacedPairs) → IfSome left (λ bytes. IsImport bytes pairs) → Puts old new answer (import_words pairs)
     → IfSome left (λ bytes. PutsMade IsImport import_words IsCarriedImport answer bytes old new)
 import_put answer None old new pairs is puts = tt
-import_put answer (Some bytes) old new pairs is puts = record {
-  made = pairs;
-  accepted = is;
-  output_is = puts;
-  sound = frames_carried rate.F2997 (import_columns pairs) (frames_of pairs) (columns_bytes pairs (file_bytes pairs bytes is.file))
-      (quiet_bytes (import_columns pairs) (λ frame. refl)) (quiet_roomy rate.F2997 (import_columns pairs) (λ frame. refl));
-}
+import_put answer (Some bytes) old new pairs is puts =
+    (import_words pairs, (pairs, is, refl, carried_import bytes pairs is), puts)
 
 pub frames_are : (pairs rest : PlacedPairs) (last : ℕ × Pair) → pairs ≡ rest ++ last ∷ [] → last.0 + 1 ≡ frames_of pairs
 frames_are pairs rest last is = sym (ap frames_of is ∙ frames_behind rest 0 last)

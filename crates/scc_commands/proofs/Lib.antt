@@ -3,7 +3,7 @@ pub mod ExportedFileLemmas
 pub mod ExportAnswerLemmas
 pub mod FrameLemmas
 pub mod ImportLemmas
+pub mod ImportVerdictLemmas
+pub mod ImportEveryLemmas
 pub mod RoundTripLemmas
-pub mod SccVerdictLemmas
-pub mod StopAtLemmas
 pub mod WrittenLemmas

@@ -1,5 +1,5 @@
 -- Believed in part: the program's answer stands on some of these definitions.
--- What `export` answers: the SCC file of the field 1 pairs that the frames of a words file carry, or why the run stopped, and with what
+-- What `export` makes of words: the SCC file of the field 1 pairs that the frames of a words file carry, or why it stops, and with what
 -- text before.
 use Rattle.std.specs.Prelude.{◌≡◌, ◌≢◌, ◌<◌, ◌≤◌, ℕ, suc, true, false, List, [], ◌∷◌, ◌++◌, length, map, None}
 use Rattle.std.specs.List.{AllByRecursion}
@@ -16,11 +16,10 @@ use Rattle.scc_files.specs.Written.{written_file}
 use Rattle.cdp_packets.specs.Packets.{Frame}
 use Rattle.cdp_packets.specs.PacketTriplets.{packet_triplets}
 use Rattle.words_files.specs.Received.{field_pairs}
-use Rattle.command_base.specs.Ends.{Ends}
 use Rattle.command_base.specs.declared.status.Status.{Status}
 use Rattle.command_base.specs.declared.status.Status.TheVariants as status
-use Rattle.words_reading.specs.Answers.{FileAnswer}
 use Rattle.words_reading.specs.FrameTexts.{FramesHalt, FramesSay}
+use Rattle.words_reading.specs.WordsVerdict.{OfFile, WordsVerdict}
 use Rattle.scc_commands.specs.Import.{PlacedPairs}
 
 -- the field 1 pairs of a frame: those of its triplets that count
@@ -94,6 +93,11 @@ IsExportOf time text_of = FramesSay (text_of time) (AreExported time)
 abbrev pub ExportHalts : TimeCode → Status → List ℕ → List ℕ → Type 0
 ExportHalts time answer = FramesHalt (export_front time) (AreExported time) (λ frames last. StopsAtFrame time (length frames) last answer)
 
--- what `export` answers, where frame 0 has this time code
-abbrev pub ExportAnswer : TimeCode → Ends → Ends → Status → Type 0
-ExportAnswer time old new answer = FileAnswer (IsExportOf time export_file) (IsExportOf time export_front) (ExportHalts time) old new answer
+-- or the whole SCC file is that of a words file
+abbrev pub ExportEnd : TimeCode → Status → List ℕ → List ℕ → Type 0
+ExportEnd time status.Ok input text = OfFile (λ frames. AreExported time frames × (text ≡ export_file time frames)) input
+ExportEnd time _ input text = ⊥
+
+-- `export`, where frame 0 has this time code
+abbrev pub ExportVerdict : TimeCode → List ℕ → Status → List ℕ → Type 0
+ExportVerdict time = WordsVerdict (ExportEnd time) (IsExportOf time export_front) (ExportHalts time)

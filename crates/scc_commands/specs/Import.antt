@@ -1,5 +1,5 @@
 -- Believed in part: the program's answer stands on some of these definitions.
--- What `import` answers: the words that carry the pairs of an SCC file, or why its bytes are refused.
+-- What `import` makes of its input: the words that carry the pairs of an SCC file, or why its bytes are refused.
 use Rattle.std.specs.Prelude.{ℕ, ◌<◌, ◌≤◌, ◌==◌, if◌then◌else◌, List, [], ◌∷◌, length, Option, Some, Result}
 use Rattle.cc_base.specs.Streams.{whole_limit}
 use Rattle.cc_base.specs.declared.limit_of.LimitOf.TheVariants as limit
@@ -13,8 +13,7 @@ use Rattle.cdp_packets.specs.Packets.{Frame}
 use Rattle.scc_files.specs.Offences.{IsFirstOffence}
 use Rattle.scc_files.specs.Reading.{frames_of}
 use Rattle.scc_files.specs.SccFiles.{IsSccFile}
-use Rattle.command_base.specs.Ends.{Ends}
-use Rattle.command_base.specs.MakesAnswer.{MakesAnswer}
+use Rattle.command_base.specs.MadeVerdict.{MadeVerdict}
 use Rattle.command_base.specs.WholeInput.{ReadsInput}
 use Rattle.command_base.specs.declared.status.Place.TheVariants.{Byte}
 use Rattle.command_base.specs.declared.status.Status.{Status}
@@ -67,6 +66,6 @@ IsRefusedImport bytes _ = ⊥
 abbrev pub ReadsImport : Option (List ℕ) → Option (List ℕ) → ℕ → ℕ → Result PlacedPairs Status → Type 0
 ReadsImport old new before now result = ReadsInput IsImport IsRefusedImport old new before now result
 
--- what `import` answers
-abbrev pub ImportAnswer : Ends → Ends → Status → Type 0
-ImportAnswer old new answer = MakesAnswer IsImport import_words IsCarriedImport IsRefusedImport old new answer
+-- `import`
+abbrev pub ImportVerdict : List ℕ → Status → List ℕ → Type 0
+ImportVerdict = MadeVerdict IsImport import_words IsCarriedImport IsRefusedImport

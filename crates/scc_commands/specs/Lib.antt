@@ -2,5 +2,4 @@ pub mod Import
 pub mod Cursors
 pub mod ImportSteps
 pub mod Export
-pub mod ExportVerdict
 pub mod Exporting

@@ -1,7 +1,8 @@
 ghost use Rattle.std.specs.Prelude.{◌≡◌, true};
 ghost use Rattle.command_base.specs.Ends.{ends};
 ghost use Rattle.time_codes.specs.TimeCodes.{is_time_code};
-ghost use Rattle.scc_commands.specs.Export.{ExportAnswer};
+ghost use Rattle.scc_commands.specs.Export.{ExportVerdict};
+ghost use Rattle.command_base.specs.Realises.{RealisesLeaving};
 
 use crate::exporting::Exporting;
 use cc_base::{Put, Sink, Source};
@@ -24,7 +25,7 @@ pub fn run_export<M: Source, O: Sink>(
     out: &mut O,
 ) -> Status
     requires { is_time_code time ≡ true }
-    ensures { ExportAnswer time
+    ensures { RealisesLeaving (ExportVerdict time)
         (ends (M.left input.old) (M.faults input.old) (O.written out.old) (O.faults out.old))
         (ends (M.left input.new) (M.faults input.new) (O.written out.new)
         (O.faults out.new)) result }

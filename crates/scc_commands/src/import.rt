@@ -1,9 +1,10 @@
 ghost use Rattle.std.specs.Prelude.{◌≡◌, ◌≤◌, IfOk, length};
 ghost use Rattle.cc_base.specs.Streams.{PutCause, Puts, whole_limit};
 ghost use Rattle.command_base.specs.Ends.{ends};
+ghost use Rattle.command_base.specs.Realises.{RealisesAlone};
 ghost use Rattle.command_base.specs.WholeInput.{JudgesInput};
 ghost use Rattle.scc_files.specs.Reading.{frames_of};
-ghost use Rattle.scc_commands.specs.Import.{ImportAnswer, IsImport, IsRefusedImport, ReadsImport, import_words, most_import_frames};
+ghost use Rattle.scc_commands.specs.Import.{ImportVerdict, IsImport, IsRefusedImport, ReadsImport, import_words, most_import_frames};
 ghost use Rattle.scc_commands.specs.ImportSteps.{ArePlaced, fault_status, frame_with};
 
 use crate::cursor::Cursor;
@@ -24,7 +25,7 @@ use text_output::Gathered;
 /// Malformed comes exactly at the file's first offence, Limit (Bytes) where it has more than 67,108,864 bytes, and Limit
 /// (Frames) where it has more than 2,592,000 frames; then nothing is put.
 pub fn run_import<M: Source, O: Sink>(alloc: Global, input: &mut M, out: &mut O) -> Status
-    ensures { ImportAnswer
+    ensures { RealisesAlone ImportVerdict
         (ends (M.left input.old) (M.faults input.old) (O.written out.old) (O.faults out.old))
         (ends (M.left input.new) (M.faults input.new) (O.written out.new)
         (O.faults out.new)) result }

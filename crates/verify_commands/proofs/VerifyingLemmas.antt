@@ -22,7 +22,7 @@ use Rattle.words_files.proofs.FrontLemmas.{TwoFronts, before_it, behind_it, same
 use Rattle.words_reading.proofs.PieceLemmas.{cut_short, front_size, front_spelled}
 use Rattle.words_reading.specs.Judging.{EndsAt, HasGathered, HasStopped}
 use Rattle.words_reading.specs.declared.judge.Stop.TheVariants as stop
-use Rattle.verify_commands.specs.VerifyAnswer.{FindsFirst, FindsNothing, IsFoundAtFrame}
+use Rattle.verify_commands.specs.VerifyVerdict.{FindsFirst, FindsNothing, IsFoundAtFrame}
 use Rattle.verify_commands.specs.Verifying.{HasJudged, HasJudgedSo}
 use Rattle.verify_commands.specs.declared.verifying.Found.{Found}
 use Rattle.verify_commands.specs.declared.verifying.Verifying.{Verifying}
@@ -48,7 +48,7 @@ nothing_judged list verifier verified own nothing =
 -- a word is refused
 pub word_refused : {Halts : Found → List ℕ → List ℕ → Type 0} → (list : Listing) (start now : Option (List ℕ)) (held before bytes : List ℕ) (old : Verifying) (new : Verifier) (refusal : Refusal)
     → HasGathered (HasJudgedSo list) start now held before old → FeedsOn before bytes old.verifier new (Err refusal)
-    → HasStopped (FindsNothing list []) Halts start now held (before ++ bytes) (stop.Refused refusal)
+    → HasStopped (FindsNothing list) Halts start now held (before ++ bytes) (stop.Refused refusal)
 word_refused list start now held before bytes old new refusal had fed =
     let judged = had.judged.judged in
     record {
@@ -163,7 +163,7 @@ by_end list before bytes text old new fed finding ended.Foreign is had none feed
 pub finding_met : (list : Listing) (start now : Option (List ℕ)) (held before bytes : List ℕ) (old : Verifying) (new : Verifier) (fed : Fed) (finding : Finding)
     → HasGathered (HasJudgedSo list) start now held before old → FeedsOn before bytes old.verifier new (Ok fed) → HasVerified (before ++ take fed.used bytes) new
     → list_of new ≡ list_of old.verifier → finding_of new ≡ Some finding
-    → HasStopped (FindsNothing list []) (λ (found : Found). FindsFirst list found.finding) start now held (before ++ bytes) (stop.Own (record { finding = finding }))
+    → HasStopped (FindsNothing list) (λ (found : Found). FindsFirst list found.finding) start now held (before ++ bytes) (stop.Own (record { finding = finding }))
 finding_met list start now held before bytes old new fed finding had feeds verified own found = record {
   judged = before ++ take fed.used bytes;
   unjudged = drop fed.used bytes;

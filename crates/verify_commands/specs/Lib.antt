@@ -1,5 +1,5 @@
 pub use Rattle.cc_verifier.specs.Differing
 pub use Rattle.cc_verifier.specs.Findings
-pub mod VerifyAnswer
 pub mod VerifyVerdict
+pub mod Verified
 pub mod Verifying

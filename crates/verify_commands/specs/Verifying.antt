@@ -8,7 +8,7 @@ use Rattle.command_base.specs.declared.status.Status.TheVariants as status
 use Rattle.cue_types.specs.Listing.{Listing}
 use Rattle.words_files.specs.Offences.{IsUnoffending}
 use Rattle.services_files.specs.CaptionChannel.{caption_channel}
-use Rattle.verify_commands.specs.VerifyAnswer.{FindsNothing}
+use Rattle.verify_commands.specs.VerifyVerdict.{FindsNothing}
 use Rattle.verify_commands.specs.declared.verifying.Found.{Found}
 use Rattle.verify_commands.specs.declared.verifying.Verifying.{Verifying}
 
@@ -27,4 +27,4 @@ pub record HasJudged (list : Listing) (bytes : List ℕ) (verifier : Verifier) :
 -- and nothing was put of them
 pub record HasJudgedSo (list : Listing) (bytes text : List ℕ) (verifying : Verifying) : Type 0 where
   pub judged : HasJudged list bytes verifying.verifier
-  pub says : FindsNothing list [] bytes text
+  pub says : FindsNothing list bytes text

@@ -4,7 +4,6 @@
 
 pub use crate::verify::run_verify;
 
-pub mod laws;
 mod nowhere;
 mod verify;
 mod verifying;

@@ -1,7 +1,7 @@
 ghost use Rattle.std.specs.Prelude.{ℕ, List, []};
 ghost use Rattle.cc_verifier.specs.Verifiers.{list_of};
 ghost use Rattle.cue_types.specs.Listing.{Listing};
-ghost use Rattle.verify_commands.specs.VerifyAnswer.{FindsFirst, FindsNothing};
+ghost use Rattle.verify_commands.specs.VerifyVerdict.{FindsFirst, FindsNothing};
 ghost use Rattle.verify_commands.specs.Verifying.{HasJudged, HasJudgedSo, found_status};
 
 use cc_base::{Refusal, Sink};
@@ -42,7 +42,7 @@ impl Judge for Verifying {
 
     ghost HasJudged = { λ list bytes text verifying. HasJudgedSo list bytes text verifying };
 
-    ghost Says = { λ list. FindsNothing list [] };
+    ghost Says = { λ list. FindsNothing list };
 
     ghost Halts = { λ list found. FindsFirst list found.finding };
 

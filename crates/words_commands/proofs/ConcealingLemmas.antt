@@ -42,7 +42,7 @@ use Rattle.words_commands.specs.ConcealedScreens.{concealed_changes, concealed_s
 use Rattle.words_commands.specs.Concealing.{HasJudgedConcealed, HasReadConcealed, ShownLast}
 use Rattle.words_commands.specs.declared.concealing.Concealing.{Concealing}
 use Rattle.words_commands.proofs.PrintingLemmas.{alike_after, gathered_still, texts_more}
-use Rattle.words_commands.proofs.WordsAnswerLemmas.{HasEndedCounted}
+use Rattle.words_commands.proofs.AnswerLemmas.{HasEndedCounted}
 
 -- the screens now are the concealed ones
 pub screens_now : (frames : List Frame) (concealer : Concealer) → Conceals frames concealer

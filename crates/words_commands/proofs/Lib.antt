@@ -2,5 +2,5 @@ pub use Rattle.words_reading.proofs.PieceLemmas
 mod ConcealingLemmas
 mod PacketLinesLemmas
 pub mod PrintingLemmas
-mod WordsAnswerLemmas
-pub mod WordsVerdictLemmas
+mod AnswerLemmas
+pub mod VerdictLemmas

@@ -2,5 +2,4 @@ pub mod ConcealedScreens
 pub mod Concealing
 pub mod Screens
 pub mod PacketLines
-pub mod WordsAnswer
-pub mod WordsVerdict
+pub mod Verdicts

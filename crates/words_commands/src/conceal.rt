@@ -1,6 +1,7 @@
 ghost use Rattle.command_base.specs.Ends.{ends};
 ghost use Rattle.words_commands.specs.ConcealedScreens.{concealed_changes};
-ghost use Rattle.words_commands.specs.WordsAnswer.{ChangesAnswer};
+ghost use Rattle.words_commands.specs.Verdicts.{ChangesVerdict};
+ghost use Rattle.command_base.specs.Realises.{RealisesLeaving};
 
 use crate::concealing::Concealing;
 use crate::count::put_count;
@@ -15,7 +16,7 @@ use words_reading::read_words;
 /// are missing before it, if some are, and the screens that changed, with the number of the frame by the counters; and behind the last
 /// one the number of frames that came.
 pub fn run_conceal<M: Source, O: Sink>(alloc: Global, input: &mut M, out: &mut O) -> Status
-    ensures { ChangesAnswer concealed_changes
+    ensures { RealisesLeaving (ChangesVerdict concealed_changes)
         (ends (M.left input.old) (M.faults input.old) (O.written out.old) (O.faults out.old))
         (ends (M.left input.new) (M.faults input.new) (O.written out.new)
         (O.faults out.new)) result }

@@ -1,5 +1,3 @@
-pub mod AnswersLemmas
-pub mod EarlyLemmas
 pub mod EndLemmas
 pub mod FrameLemmas
 pub mod GatheringLemmas
@@ -13,3 +11,9 @@ pub mod PacketEndLemmas
 pub mod FeedLemmas
 pub mod RefusedLemmas
 pub mod PacketWayLemmas
+pub mod WordsLemmas
+pub mod OneLemmas
+pub mod HaltLemmas
+pub mod FrameFrontLemmas
+pub mod EveryLemmas
+pub mod WalkLemmas

@@ -1,6 +1,6 @@
--- Believed: the program's answer stands on these definitions.
+-- Believed in part: the program's answer stands on some of these definitions.
 -- Causes for which a reading of words ends: of the bytes judged, and of those taken behind them and not judged.
-use Rattle.std.specs.Prelude.{◌≡◌, ◌<◌, ◌≤◌, ◌⊎◌, ℕ, List, [], length, Option, IfSome}
+use Rattle.std.specs.Prelude.{◌≡◌, ◌<◌, ◌⊎◌, ℕ, List, [], length, Option, IfSome}
 use Rattle.cc_base.specs.declared.refusal.Refusal.{Refusal}
 use Rattle.cdp_packets.specs.Packets.{Frame}
 use Rattle.words_files.specs.Offences.{FirstOffendingWord, IsCutShort, IsFileUnder}
@@ -21,17 +21,6 @@ IsWholeInput left judged unjudged = IfSome left (λ bytes. bytes ≡ judged) × 
 -- the whole input is a words file
 abbrev pub IsWholeFile : Option (List ℕ) → Cause
 IsWholeFile left judged unjudged = IsWholeInput left judged unjudged × ((frames : List Frame) × IsFileUnder caption_channel frames judged)
-
--- the whole input is a words file of so many frames at least
-abbrev pub HasEnough : ℕ → Option (List ℕ) → Cause
-HasEnough least left judged unjudged =
-    IsWholeInput left judged unjudged × ((frames : List Frame) × IsFileUnder caption_channel frames judged × (least ≤ length frames))
-
--- the whole input is a words file of this number of frames, fewer than so many
-abbrev pub IsShort : ℕ → ℕ → Option (List ℕ) → Cause
-IsShort least count left judged unjudged =
-    IsWholeInput left judged unjudged
-    × ((frames : List Frame) × IsFileUnder caption_channel frames judged × (count ≡ length frames) × (length frames < least))
 
 -- nothing offends in the bytes taken, as this says
 abbrev pub HasNoOffence : (List ℕ → Type 0) → Cause

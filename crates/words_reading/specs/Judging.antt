@@ -1,4 +1,4 @@
--- Believed in part: the program's answer stands on some of these definitions.
+-- Between crates: the program's answer stands on none of these definitions.
 -- Steps on the way through words: a piece of their bytes is judged, and the text that stands for them is gathered and put.
 use Rattle.std.specs.Prelude.{◌≡◌, ◌≤◌, ◌+◌, ◌⊎◌, ℕ, List, [], ◌++◌, length, take, Option, Result, Ok, Err}
 use Rattle.cc_base.specs.Streams.{Puts, Rose}

@@ -1,4 +1,3 @@
-pub mod Answers
 pub mod Causes
 pub mod FrameTexts
 pub mod FramesRead
@@ -6,3 +5,4 @@ pub mod Judging
 pub mod Reading
 pub mod Statuses
 pub mod OpenPackets
+pub mod WordsVerdict

@@ -1,4 +1,4 @@
--- Believed in part: the program's answer stands on some of these definitions.
+-- Between crates: the program's answer stands on none of these definitions.
 -- What ends the reading of words by a command: each end has its cause, and what was put, in one place. The bytes of a words file are
 -- judged in order, up to the limit, and their text is put before more are taken.
 use Rattle.std.specs.Prelude.{◌≡◌, ◌≤◌, ℕ, List, ◌++◌, length, Result, Ok, Err}

@@ -1,7 +1,7 @@
 pub use Rattle.xds_frames.specs.XdsFrames
 pub mod PacketLists
 pub mod PlacedPackets
-pub mod XdsAnswer
 pub mod XdsStatus
 pub mod XdsVerdict
+pub mod Judged
 pub mod XdsWords

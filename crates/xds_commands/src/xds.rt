@@ -1,7 +1,8 @@
 ghost use Rattle.std.specs.Prelude.{◌≡◌};
 ghost use Rattle.command_base.specs.Ends.{ends};
-ghost use Rattle.cue_list_commands.specs.SideEnds.{side_ends};
-ghost use Rattle.xds_commands.specs.XdsAnswer.{XdsAnswer};
+ghost use Rattle.command_base.specs.SideEnds.{side_ends};
+ghost use Rattle.command_base.specs.Realises.{AwaitsSide, Realises};
+ghost use Rattle.xds_commands.specs.XdsVerdict.{AreItsPackets, XdsVerdict};
 ghost use Rattle.xds_commands.specs.XdsStatus.{fault_status};
 
 use crate::packet_list::read_packets;
@@ -78,11 +79,14 @@ pub fn run_xds<M: Source, S: Source, O: Sink>(
     side: &mut S,
     out: &mut O,
 ) -> Status
-    ensures { XdsAnswer (side_ends (S.left side.old) (S.faults side.old))
+    ensures answer { Realises XdsVerdict (side_ends (S.left side.old) (S.faults side.old))
         (side_ends (S.left side.new) (S.faults side.new))
         (ends (M.left input.old) (M.faults input.old) (O.written out.old) (O.faults out.old))
         (ends (M.left input.new) (M.faults input.new) (O.written out.new)
         (O.faults out.new)) result }
+    ensures untouched { AwaitsSide AreItsPackets (side_ends (S.left side.old) (S.faults side.old))
+        (ends (M.left input.old) (M.faults input.old) (O.written out.old) (O.faults out.old))
+        (ends (M.left input.new) (M.faults input.new) (O.written out.new) (O.faults out.new)) }
 {
     run_beside(Unread, alloc, side, input, out)
 }

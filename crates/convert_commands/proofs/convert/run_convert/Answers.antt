@@ -1,8 +1,13 @@
-use Rattle.std.proofs.Common.{[]}
+use Rattle.std.proofs.Common.{[], refl}
+use Rattle.command_base.proofs.RealisedLemmas.{no_memory}
+use Rattle.convert_commands.specs.ConvertVerdict.{ConvertVerdict}
 use Rattle.words_reading.proofs.UnderwayLemmas.{nothing_put}
-use Rattle.convert_commands.proofs.ConvertAnswerLemmas.{convert_done, convert_stopped}
+use Rattle.convert_commands.proofs.AnswerLemmas.{convert_done, convert_stopped}
 use Rattle.convert_commands.proofs.ConvertingLemmas.{nothing_made}
 use Rattle.convert_commands.proofs.convert.run_convert.Goals as goal
+
+pub returns-in_default : goal.returns-in_default
+returns-in_default g c = no_memory ConvertVerdict _ _ refl
 
 pub read_words-requires : goal.read_words-requires
 read_words-requires g c = (nothing_made (record { converter = c.in-Ok.converter }) c.in-Ok.ensures).underway

@@ -1,13 +1,20 @@
-use Rattle.std.proofs.Common.{◌≤◌, ◌<◌, MatchBool, [], length, refl, subst}
-use Rattle.insert_commands.proofs.AnswerLemmas.{list_refused, short_answer, stopped_answer, whole_answer}
+use Rattle.std.proofs.Common.{◌≤◌, ◌<◌, MatchBool, None, [], length, refl, subst}
+use Rattle.insert_commands.proofs.AnswerLemmas.{short_answer, stopped_answer, whole_answer}
+use Rattle.cue_list_commands.specs.Accepted.{IsRefused}
+use Rattle.cue_list_commands.specs.Output.{IsPlacedAs}
+use Rattle.cue_list_commands.specs.Reads.{IsProgrammeOf}
+use Rattle.insert_commands.specs.InsertVerdict.{InsertVerdict, InsertWords}
+use Rattle.command_base.specs.SideEnds.{side_ends}
+use Rattle.command_base.proofs.RealisedLemmas.{no_memory_beside}
+use Rattle.words_reading.proofs.WordsLemmas.{refused_beside}
 use Rattle.words_reading.proofs.UnderwayLemmas.{nothing_put}
 use Rattle.insert_commands.proofs.insert.run_insert.Goals as goal
 
 pub returns-in-Err : goal.returns-in-Err
-returns-in-Err g c = list_refused _ _ _ _ _ c.in-Err.status c.in-Err.ensures
+returns-in-Err g c = refused_beside IsPlacedAs IsRefused InsertWords IsProgrammeOf _ _ _ _ c.in-Err.status c.in-Err.ensures refl
 
 pub returns-in_default : goal.returns-in_default
-returns-in_default g c = (c.in-Ok.ensures.0, refl)
+returns-in_default g c = no_memory_beside IsPlacedAs InsertVerdict _ (side_ends None _) _ _ c.in-Ok.ensures.0 refl
 
 pub returns-then-is_over : goal.returns-then-is_over
 returns-then-is_over g c =

@@ -1,7 +1,13 @@
+use Rattle.std.proofs.Common.{refl}
+use Rattle.command_base.proofs.RealisedLemmas.{no_memory}
+use Rattle.mcc_commands.specs.ImportMcc.{ImportMccVerdict}
 use Rattle.text_output.specs.Gathered.{held_of}
 use Rattle.command_base.specs.Ends.{ends}
 use Rattle.mcc_commands.proofs.RunLemmas.{answered, err_is, ok_is}
 use Rattle.mcc_commands.proofs.import.run_import_mcc.Goals as goal
+
+pub returns-in_default : goal.returns-in_default
+returns-in_default g c = no_memory ImportMccVerdict _ _ refl
 
 pub returns-in-Ok-put_rest : goal.returns-in-Ok-put_rest
 returns-in-Ok-put_rest g c =

@@ -1,8 +1,14 @@
+use Rattle.std.proofs.Common.{refl}
+use Rattle.scc_commands.specs.Export.{ExportVerdict}
 use Rattle.scc_files.specs.Writing.{head_text}
+use Rattle.command_base.proofs.RealisedLemmas.{no_memory}
 use Rattle.words_reading.proofs.FrameLemmas.{nothing_read}
 use Rattle.scc_commands.proofs.WrittenLemmas.{stands_first}
 use Rattle.scc_commands.proofs.ExportAnswerLemmas.{export_done, export_stopped, export_unwritten, head_failed, nothing_exported}
 use Rattle.scc_commands.proofs.export.run_export.Goals as goal
+
+pub returns-in_default : goal.returns-in_default
+returns-in_default g c = no_memory (ExportVerdict c.args.time) _ _ refl
 
 pub returns-in-Failed : goal.returns-in-Failed
 returns-in-Failed g c = head_failed c.args.time _ _ _ _ _ _ c.in-Failed.ensures.bytes c.in-Failed.ensures.cause.1

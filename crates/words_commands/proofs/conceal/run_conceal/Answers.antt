@@ -1,9 +1,14 @@
-use Rattle.std.proofs.Common.{[]}
+use Rattle.std.proofs.Common.{[], refl}
+use Rattle.command_base.proofs.RealisedLemmas.{no_memory}
+use Rattle.words_commands.specs.Verdicts.{ChangesVerdict}
 use Rattle.words_reading.proofs.UnderwayLemmas.{nothing_put}
 use Rattle.words_commands.proofs.ConcealingLemmas.{counted_concealed, nothing_concealed}
-use Rattle.words_commands.proofs.WordsAnswerLemmas.{changes_done, changes_stopped, changes_unwritten}
+use Rattle.words_commands.proofs.AnswerLemmas.{changes_done, changes_stopped, changes_unwritten}
 use Rattle.words_commands.specs.ConcealedScreens.{concealed_changes}
 use Rattle.words_commands.proofs.conceal.run_conceal.Goals as goal
+
+pub returns-in_default : goal.returns-in_default
+returns-in_default g c = no_memory (ChangesVerdict concealed_changes) _ _ refl
 
 pub read_words-requires : goal.read_words-requires
 read_words-requires g c =

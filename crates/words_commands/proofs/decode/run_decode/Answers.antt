@@ -1,9 +1,14 @@
-use Rattle.std.proofs.Common.{[]}
+use Rattle.std.proofs.Common.{[], refl}
+use Rattle.command_base.proofs.RealisedLemmas.{no_memory}
+use Rattle.words_commands.specs.Verdicts.{ChangesVerdict}
 use Rattle.words_reading.proofs.FrameLemmas.{nothing_read}
 use Rattle.words_reading.proofs.UnderwayLemmas.{nothing_put}
-use Rattle.words_commands.proofs.WordsAnswerLemmas.{changes_done, changes_stopped, changes_unwritten, ended_counted, nothing_decoded}
+use Rattle.words_commands.proofs.AnswerLemmas.{changes_done, changes_stopped, changes_unwritten, ended_counted, nothing_decoded}
 use Rattle.words_commands.specs.Screens.{changes_of}
 use Rattle.words_commands.proofs.decode.run_decode.Goals as goal
+
+pub returns-in_default : goal.returns-in_default
+returns-in_default g c = no_memory (ChangesVerdict changes_of) _ _ refl
 
 pub read_words-requires : goal.read_words-requires
 read_words-requires g c = nothing_read c.in-Ok-new.frames c.in-Ok-new.ensures.received

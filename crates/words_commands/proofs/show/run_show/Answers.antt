@@ -1,8 +1,13 @@
-use Rattle.std.proofs.Common.{[]}
+use Rattle.std.proofs.Common.{[], refl}
+use Rattle.command_base.proofs.RealisedLemmas.{no_memory}
+use Rattle.words_commands.specs.Verdicts.{ShowVerdict}
 use Rattle.words_reading.proofs.FrameLemmas.{nothing_read}
 use Rattle.words_reading.proofs.UnderwayLemmas.{nothing_put}
-use Rattle.words_commands.proofs.WordsAnswerLemmas.{nothing_printed, show_found, show_short, show_stopped}
+use Rattle.words_commands.proofs.AnswerLemmas.{nothing_printed, show_found, show_short, show_stopped}
 use Rattle.words_commands.proofs.show.run_show.Goals as goal
+
+pub returns-in_default : goal.returns-in_default
+returns-in_default g c = no_memory (ShowVerdict c.args.frame) _ _ refl
 
 pub read_words-requires : goal.read_words-requires
 read_words-requires g c = nothing_read c.in-Ok.frames c.in-Ok.ensures.received

@@ -1,10 +1,15 @@
-use Rattle.std.proofs.Common.{[]}
+use Rattle.std.proofs.Common.{[], refl}
+use Rattle.command_base.proofs.RealisedLemmas.{no_memory}
+use Rattle.words_commands.specs.Verdicts.{ChangesVerdict}
 use Rattle.words_reading.proofs.FrameLemmas.{nothing_read}
 use Rattle.words_reading.proofs.UnderwayLemmas.{nothing_put}
 use Rattle.words_commands.proofs.PacketLinesLemmas.{nothing_ended}
-use Rattle.words_commands.proofs.WordsAnswerLemmas.{changes_done, changes_stopped, changes_unwritten, ended_counted}
+use Rattle.words_commands.proofs.AnswerLemmas.{changes_done, changes_stopped, changes_unwritten, ended_counted}
 use Rattle.words_commands.specs.PacketLines.{packet_lines}
 use Rattle.words_commands.proofs.xds_show.run_xds_show.Goals as goal
+
+pub returns-in_default : goal.returns-in_default
+returns-in_default g c = no_memory (ChangesVerdict packet_lines) _ _ refl
 
 pub read_words-requires : goal.read_words-requires
 read_words-requires g c = nothing_read c.in-Ok.frames c.in-Ok.ensures.received

@@ -1,6 +1,5 @@
-use Rattle.std.proofs.Common.{◌++◌, ◌∷◌, [], arith, subst}
+use Rattle.std.proofs.Common.{◌++◌, ◌∷◌, [], subst}
 use Rattle.cc_base.specs.declared.streams.Put.TheVariants as put
-use Rattle.cc_receiver.proofs.FeedLemmas.{bytes_fit}
 use Rattle.words_files.proofs.FramesOfLemmas.{file_frames}
 use Rattle.services_files.specs.CaptionChannel.{caption_channel}
 use Rattle.text_output.specs.Gathered.{Gathers, held_of}
@@ -14,7 +13,7 @@ feed-requires g c = may_follow c.args.self.now _ c.requires.ready
 
 pub returns-in-Err-clause-judges : goal.returns-in-Err-clause-judges
 returns-in-Err-clause-judges g c list start before had =
-    word_refused list start _ _ before c.args.bytes.now c.args.self.now had c.in-Err.refusal (bytes_fit c.args.bytes.now (λ k below. omega (arith, c.type_inv.bytes k)))
+    word_refused list start _ _ before c.args.bytes.now c.args.self.now had c.in-Err.refusal
     (c.in-Err.ensures had.judged.says.frames had.judged.says.frames_are.file had.judged.read)
 
 pub replace-requires-clause-frame : goal.replace-requires-clause-frame

@@ -1,5 +1,0 @@
-use Rattle.dual_commands.proofs.VerdictLemmas.{refused_answered}
-use Rattle.dual_commands.proofs.laws.refused_is_answered.Goals as goal
-
-pub returns : goal.returns
-returns c = refused_answered

@@ -1,5 +1,0 @@
-use Rattle.verify_commands.proofs.ExactLemmas.{malformed_answered}
-use Rattle.verify_commands.proofs.laws.malformed_is_answered.Goals as goal
-
-pub returns : goal.returns
-returns c = malformed_answered

@@ -1,5 +1,0 @@
-use Rattle.verify_commands.proofs.ExactLemmas.{refused_side}
-use Rattle.verify_commands.proofs.laws.refused_side_is_answered.Goals as goal
-
-pub returns : goal.returns
-returns c = refused_side
