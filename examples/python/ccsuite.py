@@ -85,7 +85,7 @@ _REPORT_NUMBERS = "status why limit misfit record field cue other packet frame c
 
 
 class _Report(ctypes.Structure):
-    _fields_ = [*((name, c_uint32) for name in _REPORT_NUMBERS), ("place", c_uint64), ("written", c_uint64), ("text", c_char * 160)]
+    _fields_ = [*((name, c_uint32) for name in _REPORT_NUMBERS), ("place", c_uint64), ("written", c_uint64), ("wanted", c_uint64), ("text", c_char * 160)]
 
 
 class _Fed(ctypes.Structure):
@@ -237,14 +237,14 @@ def _channel(name: str) -> int:
 
 
 def _run(name: str, *given: Text, more: tuple[Any, ...] = ()) -> bytes:
-    """What a whole run writes. It is run again with four times the room if there was too little."""
+    """What a whole run writes. It is run again if there was too little room, with as much as is wanted."""
     inputs = [_bytes_of(it) for it in given]
     words = [part for it in inputs for part in (_address_of(it), len(it))]
     size, status, report = 4 * sum(map(len, inputs)) + (1 << 16), Status.ROOM, _Report()
     while status == Status.ROOM:
         room = _Room(size)
         status = _CALLS[name](*words, *more, room.address, room.size, byref(report))
-        size *= 4
+        size = report.wanted
     written = room.front(report.written)
     if status == Status.MEMORY:
         raise MemoryError("out of memory")

@@ -216,7 +216,7 @@ class Module(unittest.TestCase):
         self.assertEqual([ccsuite.REASONS[it] for it in (1, 13, 14, 17, 20, 22, 29, 31, 34, 40, 46)], wanted.split())
 
     def test_no_library(self):
-        ran = subprocess.run([sys.executable, "-c", "import ccsuite"], cwd=pathlib.Path(__file__).parent, env={"CCSUITE_LIBRARY": "/none.so"},
+        ran = subprocess.run([sys.executable, "-Bc", "import ccsuite"], cwd=pathlib.Path(__file__).parent, env={"CCSUITE_LIBRARY": "/none.so"},
                              capture_output=True, text=True)
         self.assertIn("ImportError: /none.so can't be loaded", ran.stderr)
 
