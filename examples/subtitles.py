@@ -634,7 +634,7 @@ def shares_of(lanes, rate):
 
 
 def fitted(head, cues, late):
-    """The list in which each cue that has no room is shown as few frames later as it needs, at most so many: the status, the list, and what was said."""
+    """The list in which each cue that has no room is shown as few frames later as it needs, at most `late`: the status, the list, and what was said."""
     rate, shares = head
     frames = max(it.hide for it in cues) + 60
     text = spelled(rate, frames, [*shares, *(record for it in cues for record in it.records())])

@@ -348,7 +348,7 @@ def export_mcc(words: Bytes, rate: str, time: str) -> str:
 
 
 def load(count: int) -> str:
-    """Four lines on what comes of a list of so many captions, 1 to 10,000, that the library makes, builds and shows."""
+    """Four lines on what comes of a list of 1 to 10,000 captions that the library makes, builds and shows."""
     return _run("load", more=(_number("count", count, 1, 10_000),)).decode()
 
 
