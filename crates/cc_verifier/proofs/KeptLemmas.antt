@@ -3,6 +3,7 @@ use Rattle.std.proofs.Common.{ℕ, ◌≤◌, List, [], ◌∷◌, arith}
 use Rattle.std.specs.Prelude.{⊤}
 use Rattle.cc_verifier.specs.ChannelTimes.{AreCuesTimed}
 use Rattle.cue_lists.specs.Rules.{IsRuled}
+use Rattle.cue_lists.proofs.RulesSaid.{lanes_ruled}
 use Rattle.cue_lists.specs.Rules.Sentences.{AreInSequence}
 use Rattle.cue_types.specs.Channels.{cues_on}
 use Rattle.cue_types.specs.Listing.{Listing}
@@ -27,4 +28,4 @@ begin_from_zero (cue ∷ later) = omega arith
 
 -- the cues of each channel are timed
 pub ruled_timed : (list : Listing) → IsRuled list → AreTimedAll list.cues
-ruled_timed list ruled channel = timed_from (slot_step list.rate) list.frames 0 (cues_on channel list.cues) (begin_from_zero (cues_on channel list.cues)) (ruled.channels channel)
+ruled_timed list ruled channel = timed_from (slot_step list.rate) list.frames 0 (cues_on channel list.cues) (begin_from_zero (cues_on channel list.cues)) ((lanes_ruled list ruled).channels channel)

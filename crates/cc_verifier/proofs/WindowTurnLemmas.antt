@@ -5,6 +5,7 @@ use Rattle.std.proofs.lemmas.List.Elements.{All-head, All-tail}
 use Rattle.std.specs.List.{AllByRecursion}
 use Rattle.std.specs.Prelude.{All, IfSome, IsSome, None, Option, Some}
 use Rattle.cue_lists.specs.Rules.{IsRuled}
+use Rattle.cue_lists.proofs.RulesSaid.{lanes_ruled}
 use Rattle.cue_lists.specs.Rules.Sentences.{AreInService, KeepsClear}
 use Rattle.cue_lists.specs.Rules.WindowBusy.{same_window}
 use Rattle.cue_types.specs.Channels.{cues_of_service, is_of_service, uses_window}
@@ -89,4 +90,4 @@ in_turn list service id (cue ∷ later) formed sound = by_test (is_of_service se
 
 -- those of each window are in turn
 pub ruled_in_turn : (list : Listing) → IsFormed list → IsRuled list → AreAllInTurn list.cues
-ruled_in_turn list formed ruled service id = in_turn list service id list.cues formed.cues (ruled.services service)
+ruled_in_turn list formed ruled service id = in_turn list service id list.cues formed.cues ((lanes_ruled list ruled).services service)

@@ -7,7 +7,7 @@ use Rattle.line21_codes.specs.declared.channels.Chan.{Chan}
 use Rattle.cue_types.specs.Channels.{is_on}
 use Rattle.cue_types.specs.Line21Cues.{base_row, continues, same_roll}
 use Rattle.cue_types.specs.Listing.{Listing}
-use Rattle.cue_lists.specs.Rules.{fault_of}
+use Rattle.cue_lists.specs.Rules.Tests.{fault_of}
 use Rattle.cue_types.specs.Hide.{hide_is}
 use Rattle.cue_lists.specs.Rules.Clash.{clash, shows_as_it_hides}
 use Rattle.cue_lists.specs.Rules.Delay.{delay_of}

@@ -9,7 +9,7 @@ use Rattle.line21_codes.specs.declared.channels.Chan.{Chan}
 use Rattle.cue_types.specs.Channels.{is_on, cues_on}
 use Rattle.cue_types.specs.Line21Cues.{base_row, continues, same_roll}
 use Rattle.cue_types.specs.Listing.{Listing}
-use Rattle.cue_lists.specs.Rules.{AreFaultless}
+use Rattle.cue_lists.specs.Rules.Tests.{AreFaultless}
 use Rattle.cue_lists.specs.Rules.Former.{former_cue}
 use Rattle.cue_types.specs.Lane.{is_line21, is_paint, is_pop, is_roll}
 use Rattle.cue_lists.specs.Rules.Sentences.{AreInSequence, ComesAfter, IsContinued, IsOnSlots, IsSound}

@@ -19,7 +19,7 @@ use Rattle.cue_types.specs.declared.cue.Cue.{Cue}
 use Rattle.cue_types.specs.declared.cue.Kind.{Kind}
 use Rattle.cue_types.specs.declared.cue.Kind.TheVariants as kind
 use Rattle.cue_types.specs.declared.cue.WinCue.{WinCue}
-use Rattle.cue_lists.specs.Rules.{AreFaultless}
+use Rattle.cue_lists.specs.Rules.Tests.{AreFaultless}
 use Rattle.cue_types.specs.Hide.{hide_is}
 use Rattle.cue_lists.specs.Rules.Alternatives.{first_broken}
 use Rattle.cue_lists.specs.Rules.Delay.{delay_of, delay_start, event_frames}

@@ -2,8 +2,11 @@ pub mod ChannelCues
 pub mod ChannelKept
 pub mod ChannelRules
 pub mod DelayTests
+pub mod Denials
+pub mod FirstFailing
 pub mod FormersLemmas
 pub mod LaneCues
+pub mod LanesSaid
 pub mod LastOfWindows
 pub mod RuleCells
 pub mod RuleJudging
@@ -12,6 +15,7 @@ pub mod RuleLists
 pub mod RuleNearest
 pub mod RuleTests
 pub mod RulesDecided
+pub mod RulesJudged
 pub mod RulesSaid
 pub mod ServiceCues
 pub mod ServiceRules

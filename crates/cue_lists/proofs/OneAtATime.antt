@@ -16,6 +16,7 @@ use Rattle.cue_lists.specs.Rules.{IsRuled}
 use Rattle.cue_lists.specs.Rules.Sentences.{AreInService, IsSoundWindow, KeepsClear}
 use Rattle.cue_lists.specs.Rules.WindowBusy.{same_window}
 use Rattle.cue_lists.proofs.ServiceCues.{window_of_service}
+use Rattle.cue_lists.proofs.RulesSaid.{lanes_ruled}
 use Rattle.cue_lists.proofs.ServiceRules.{of_all, window_hides}
 
 -- two tests in one
@@ -127,4 +128,4 @@ module _ (list : Listing) (service id frame : ℕ) where
 -- so in a list that keeps the rules
 pub one_at_a_time : (list : Listing) → IsFormed list → IsRuled list → (service id frame : ℕ) → AreOneAtATime service id frame list.cues
 one_at_a_time list formed ruled service id frame =
-    one_by_one list service id frame list.cues (recursion_from_All IsCueFormed list.cues formed.cues) (ruled.services service)
+    one_by_one list service id frame list.cues (recursion_from_All IsCueFormed list.cues formed.cues) ((lanes_ruled list ruled).services service)

@@ -7,7 +7,7 @@ use Rattle.std.proofs.lemmas.List.{reverse-append, length-reverse, reverse-rever
 use Rattle.cc_base.specs.declared.why.Why.TheVariants as why
 use Rattle.cue_types.specs.Listing.{Listing}
 use Rattle.cc_base.specs.declared.rate.Rate.{Rate}
-use Rattle.cue_lists.specs.Rules.{verdicts, first_fault, fault_of, other_of, AnswersFault}
+use Rattle.cue_lists.specs.Rules.Tests.{verdicts, first_fault, fault_of, other_of, AnswersFault}
 use Rattle.cue_lists.specs.Rules.Alternatives.{first_broken}
 use Rattle.cue_lists.specs.Rules.Clash.{clash}
 use Rattle.cue_lists.specs.Rules.DelayCovers.{delay_covers}

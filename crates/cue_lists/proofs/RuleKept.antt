@@ -4,7 +4,7 @@ use Rattle.std.specs.Prelude.{nat_le, nat_lt, is_none}
 use Rattle.std.proofs.lemmas.Bool.Decides.{leb_tells}
 use Rattle.cc_base.specs.declared.why.Why.{Why}
 use Rattle.cue_types.specs.Listing.{Listing}
-use Rattle.cue_lists.specs.Rules.{verdicts, fault_or, fault_of}
+use Rattle.cue_lists.specs.Rules.Tests.{verdicts, fault_or, fault_of}
 use Rattle.cue_types.specs.Hide.{hide_is}
 use Rattle.cue_lists.specs.Rules.Alternatives.{Alternative, with_former, first_broken}
 use Rattle.cue_types.specs.Cells.{have_shared_cell}

@@ -6,7 +6,8 @@ use Rattle.std.proofs.lemmas.List.Elements.{All-take}
 use Rattle.cue_types.specs.Cues.{IsCueFormed, IsOfKind}
 use Rattle.cue_types.specs.Line21Cues.{IsLine21Run}
 use Rattle.cue_types.specs.Listing.{Listing, IsFormed}
-use Rattle.cue_lists.specs.Rules.{fault_of, AreFaultless, IsRuled, HasFault}
+use Rattle.cue_lists.specs.Rules.{IsRuled, HasFault}
+use Rattle.cue_lists.specs.Rules.Tests.{fault_of, AreFaultless}
 use Rattle.cue_types.specs.Cells.{IsOnGrid}
 use Rattle.cue_types.specs.Windows.{IsWindow, IsWindowRun}
 use Rattle.cue_types.specs.declared.cue.Cue.{Cue}
@@ -14,7 +15,7 @@ use Rattle.cue_types.specs.declared.cue.Kind.{Kind}
 use Rattle.cue_types.specs.declared.cue.Kind.TheVariants as kind
 use Rattle.cue_lists.specs.declared.rules.RuleFault.{RuleFault}
 use Rattle.cue_lists.proofs.RuleNearest.{before_more}
-use Rattle.cue_lists.proofs.RulesSaid.{ruled_faultless}
+use Rattle.cue_lists.proofs.RulesSaid.{IsFaulty, faulty_has, has_faulty, ruled_faultless}
 
 -- a cue's runs lie on the grid
 pub on_grid : (cue : Cue) → IsCueFormed cue → All IsOnGrid cue.runs
@@ -56,16 +57,17 @@ faultless_more list cues i x within is none kept =
 pub fault_here : (list : Listing) (cues : List Cue) (i : ℕ) (x : Cue) (fault : RuleFault) → cues ≡ list.cues
     → i < length cues → x ≡ get_or cues i x → fault_of list (reverse (take i cues)) x ≡ Some fault
     → AreFaultless list (reverse (take i cues)) → HasFault list fault
-fault_here list cues i x fault are within is broken kept = record {
-  earlier = reverse (take i cues);
-  cue = x;
-  later = drop (suc i) cues;
-  split =
-      let rest : drop i cues ≡ x ∷ drop (suc i) cues = drop-cons cues i x within ∙ ap (λ y. y ∷ drop (suc i) cues) (sym is) in
-      sym are ∙ sym (take-append-drop i cues) ∙ rw (reverse-reverse, rest) refl;
-  kept = kept;
-  broken = broken;
-}
+fault_here list cues i x fault are within is broken kept =
+    faulty_has list fault (record {
+      earlier = reverse (take i cues);
+      cue = x;
+      later = drop (suc i) cues;
+      split =
+          let rest : drop i cues ≡ x ∷ drop (suc i) cues = drop-cons cues i x within ∙ ap (λ y. y ∷ drop (suc i) cues) (sym is) in
+          sym are ∙ sym (take-append-drop i cues) ∙ rw (reverse-reverse, rest) refl;
+      kept = kept;
+      broken = broken;
+    })
 
 -- the fault of the first of the cues, the newest first, that breaks a rule
 abbrev first_of : Option RuleFault → Option RuleFault → Option RuleFault
@@ -92,7 +94,7 @@ newest_first earlier cue later =
     reverse-append (reverse earlier) (cue ∷ later)
     ∙ rw (reverse-reverse, reverse-append (cue ∷ []) later, append_assoc) refl
 
-fault_first : (list : Listing) (fault : RuleFault) → HasFault list fault → fault_in list (reverse list.cues) ≡ Some fault
+fault_first : (list : Listing) (fault : RuleFault) → IsFaulty list fault → fault_in list (reverse list.cues) ≡ Some fault
 fault_first list fault has =
     let newest : reverse list.cues ≡ reverse has.later ++ has.cue ∷ has.earlier =
     ap reverse has.split ∙ newest_first has.earlier has.cue has.later in
@@ -103,15 +105,15 @@ fault_first list fault has =
 pub ruled_has_none : (list : Listing) (fault : RuleFault) → IsFormed list → IsRuled list → HasFault list fault → ⊥
 ruled_has_none list fault formed ruled has =
     let none : fault_in list (reverse list.cues) ≡ None =
-    ruled_none list (reverse list.cues) (ruled_faultless list formed ruled) in
-    let some : fault_in list (reverse list.cues) ≡ Some fault = fault_first list fault has in
+    ruled_none list (reverse list.cues) (ruled_faultless list ruled) in
+    let some : fault_in list (reverse list.cues) ≡ Some fault = fault_first list fault (has_faulty list fault has) in
     cc
 
 -- a list has one fault at most
 pub one_fault : (list : Listing) (a b : RuleFault) → HasFault list a → HasFault list b → a ≡ b
 one_fault list a b has_a has_b =
-    let one : fault_in list (reverse list.cues) ≡ Some a = fault_first list a has_a in
-    let two : fault_in list (reverse list.cues) ≡ Some b = fault_first list b has_b in
+    let one : fault_in list (reverse list.cues) ≡ Some a = fault_first list a (has_faulty list a has_a) in
+    let two : fault_in list (reverse list.cues) ≡ Some b = fault_first list b (has_faulty list b has_b) in
     cc
 
 -- what is answered of a list that keeps the rules

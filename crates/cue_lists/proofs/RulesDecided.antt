@@ -2,10 +2,11 @@
 use Rattle.std.proofs.Common.{◌≡◌, ◌∙◌, ◌⊎◌, List, [], ◌∷◌, ◌++◌, Option, Some, None, reverse, append_assoc, append-nil, sym, refl, inl, inr}
 use Rattle.std.proofs.lemmas.List.{reverse-append, reverse-reverse}
 use Rattle.cue_types.specs.Listing.{Listing}
-use Rattle.cue_lists.specs.Rules.{AreFaultless, HasFault, IsRuled, fault_of}
+use Rattle.cue_lists.specs.Rules.{HasFault, IsRuled}
+use Rattle.cue_lists.specs.Rules.Tests.{AreFaultless, fault_of}
 use Rattle.cue_types.specs.declared.cue.Cue.{Cue}
 use Rattle.cue_lists.specs.declared.rules.RuleFault.{RuleFault}
-use Rattle.cue_lists.proofs.RulesSaid.{faultless_ruled}
+use Rattle.cue_lists.proofs.RulesSaid.{faultless_ruled, faulty_has}
 
 -- the newest of the cues so far is the first of those behind the others
 newest_behind : (earlier later : List Cue) (cue : Cue) → reverse (cue ∷ earlier) ++ later ≡ reverse earlier ++ cue ∷ later
@@ -28,7 +29,7 @@ cues_decided list (cue ∷ earlier) later split =
         → AreFaultless list (cue ∷ earlier) ⊎ ((fault : RuleFault) × HasFault list fault)
     at_fault kept None is = inl (is, kept)
     at_fault kept (Some fault) is =
-        inr (fault, record { earlier = earlier; cue = cue; later = later; split = at_cue; kept = kept; broken = is })
+        inr (fault, faulty_has list fault (record { earlier = earlier; cue = cue; later = later; split = at_cue; kept = kept; broken = is }))
 
 -- every list keeps the rules, or has a fault
 pub ruled_or_broken : (list : Listing) → IsRuled list ⊎ ((fault : RuleFault) × HasFault list fault)

@@ -1,141 +1,229 @@
--- A list keeps the rules exactly where no cue of it has a fault.
-use Rattle.std.proofs.Common.{◌≡◌, ℕ, Bool, true, false, cond, All, List, [], ◌∷◌, reverse, Some, None, refl, sym, subst, ◌∙◌}
+-- A list keeps the rules exactly where no cue of it has a fault by the tests, and exactly where the cues of each lane keep them; and
+-- its fault is that of the tests.
+use Rattle.std.proofs.Common.{◌≡◌, ℕ, ◌+◌, List, [], ◌∷◌, ◌++◌, get_or, length, reverse, Option, Some, None, refl, sym, ap, subst, ◌∙◌, inl, inr}
+use Rattle.std.specs.Prelude.{All}
 use Rattle.std.specs.List.{AllByRecursion}
-use Rattle.std.proofs.lemmas.List.Elements.{All-head, All-tail, recursion_from_All}
-use Rattle.line21_codes.specs.declared.channels.Chan.{Chan}
-use Rattle.line21_codes.specs.declared.channels.Chan.TheVariants as chan
-use Rattle.cue_types.specs.Lane.{same_channel}
-use Rattle.cue_types.specs.Channels.{cues_of_service, cues_on, is_of_service, is_on}
-use Rattle.cue_types.specs.Cues.{IsCueFormed}
+use Rattle.cc_base.specs.declared.why.Why.{Why}
+use Rattle.cc_base.specs.declared.why.Why.TheVariants as why
 use Rattle.cue_types.specs.Listing.{IsFormed, Listing}
-use Rattle.cue_lists.specs.Rules.{AreFaultless, IsRuled, fault_of}
-use Rattle.cue_lists.specs.Rules.Sentences.{ComesAfter, IsOnSlots}
-use Rattle.line21_slots.specs.Cadences.{cadence_of, slot_step}
 use Rattle.cue_types.specs.declared.cue.Cue.{Cue}
-use Rattle.cue_types.specs.declared.cue.Kind.{Kind}
-use Rattle.cue_types.specs.declared.cue.Kind.TheVariants as kind
-use Rattle.cue_lists.proofs.ChannelCues.{All-reverse, former_on, line21_on}
-use Rattle.cue_lists.proofs.LaneCues.{newest}
-use Rattle.cue_lists.proofs.ChannelKept.{channel_cue_faultless}
-use Rattle.cue_lists.proofs.ChannelRules.{AreInSequenceBack, all_on_back, all_on_from_back, faultless_on_slots, IsBehind, faultless_sequence, sequence_back, sequence_from_back}
-use Rattle.cue_lists.proofs.RuleTests.{equal_itself}
-use Rattle.cue_lists.proofs.ServiceRules.{AreInServiceBack, faultless_service, service_cue_faultless, service_from_back, service_to_back}
+use Rattle.cue_lists.specs.declared.rules.RuleFault.{RuleFault}
+use Rattle.cue_lists.specs.declared.rules.against.Against.{Against}
+use Rattle.cue_lists.specs.Rules.{HasFault, IsRuled}
+use Rattle.cue_lists.specs.Rules.Former.{former_number}
+use Rattle.cue_lists.specs.Rules.Keeps.{IsFirstFailing, IsKeptWithEach, IsKeptWithFormer, KeepRules, KeepsRule, NamesOther, rules}
+use Rattle.cue_lists.specs.Rules.Sentences.{AreLanesRuled}
+use Rattle.cue_lists.specs.Rules.Tests.{AreFaultless, fault_of, first_fault, other_of, verdicts}
+use Rattle.cue_lists.proofs.FirstFailing.{first_here, first_later, holds_at, one_first}
+use Rattle.cue_lists.proofs.LanesSaid.{faultless_lanes, lanes_faultless}
+use Rattle.cue_lists.proofs.ServiceRules.{HidesWindow, window_hides}
+use Rattle.cue_lists.proofs.RulesJudged.{IsJudged, clash_told, delay_covers_told, off_slot_told, order_told, overlap_told, past_end_told, share_told, unhidden_told, window_busy_told}
 
--- a list whose cues have no fault keeps the rules
+-- no rule asks something both of the former cue and of each cue before
+asked_once : (rule : Why) (list : Listing) (former other cue : Cue) → (IsKeptWithFormer rule list former cue → ⊥)
+    → (IsKeptWithEach rule list other cue → ⊥) → ⊥
+asked_once why.WindowBusy list former other cue with_former with_each = with_former tt
+asked_once why.DelayCovers list former other cue with_former with_each = with_former tt
+asked_once _ list former other cue with_former with_each = with_each tt
+
+module _ (list : Listing) (earlier : List Cue) (cue : Cue) where
+  -- a cue that breaks a rule doesn't keep it
+  names_break : (rule : Why) (other : Option ℕ) → NamesOther list earlier cue rule other → KeepsRule list earlier cue rule → ⊥
+  names_break rule None names keeps = names keeps.alone
+  names_break rule (Some number) names keeps =
+      elim names.1 [
+        | inl former ↦ former.3 (keeps.former former.0 former.1)
+        | inr nearest ↦
+            nearest.1.fails
+            (holds_at (λ (other : Cue). IsKeptWithEach rule list other cue) earlier nearest.1.before nearest.0 nearest.1.after
+            nearest.1.split keeps.each)
+      ]
+
+  -- a broken rule names one cue
+  names_one : (rule : Why) (a b : Option ℕ) → NamesOther list earlier cue rule a → NamesOther list earlier cue rule b → a ≡ b
+  names_one rule None None first second = refl
+  names_one rule None (Some m) first second = absurd (first second.0)
+  names_one rule (Some n) None first second = absurd (second first.0)
+  names_one rule (Some n) (Some m) first second =
+      elim first.1 [
+        | inl a ↦
+            elim second.1 [
+              | inl b ↦
+                  let one = one_first _ earlier a.0 b.0 a.1 b.1 in
+                  ap Some (a.2 ∙ ap (λ (l : List Cue). length l + 1) one.1 ∙ sym b.2)
+              | inr b ↦ absurd (asked_once rule list a.0 b.0 cue a.3 b.1.fails)
+            ]
+        | inr a ↦
+            elim second.1 [
+              | inl b ↦ absurd (asked_once rule list b.0 a.0 cue b.3 a.1.fails)
+              | inr b ↦
+                  let one = one_first (λ (other : Cue). IsKeptWithEach rule list other cue) earlier a.0 b.0 a.1 b.1 in
+                  ap Some (a.2 ∙ ap (λ (l : List Cue). length l + 1) one.1 ∙ sym b.2)
+            ]
+      ]
+
+  -- each verdict tells of its rule
+  abbrev AreJudged : List (Why × Option Against) → Type 0
+  AreJudged [] = Unit {0}
+  AreJudged ((rule, verdict) ∷ later) = IsJudged list earlier cue rule verdict × AreJudged later
+
+  all_judged : AreJudged (verdicts list earlier cue)
+  unfolding verdicts
+  all_judged = (
+    order_told list earlier cue,
+    (
+      overlap_told list earlier cue,
+      (
+        clash_told list earlier cue,
+        (
+          unhidden_told list earlier cue,
+          (
+            window_busy_told list earlier cue,
+            (
+              delay_covers_told list earlier cue,
+              (share_told list earlier cue, (past_end_told list earlier cue, (off_slot_told list earlier cue, tt))),
+            ),
+          ),
+        ),
+      ),
+    ),
+  )
+
+  -- the rules of verdicts
+  abbrev rules_of : List (Why × Option Against) → List Why
+  rules_of [] = []
+  rules_of ((rule, verdict) ∷ later) = rule ∷ rules_of later
+
+  rules_are : rules_of (verdicts list earlier cue) ≡ rules
+  unfolding verdicts
+  rules_are = refl
+
+  -- what a fault of the cue is, of these rules
+  abbrev IsFaultOf : List Why → RuleFault → Type 0
+  IsFaultOf order fault =
+      (fault.cue ≡ length earlier + 1)
+      × IsFirstFailing (KeepsRule list earlier cue) order fault.why
+      × NamesOther list earlier cue fault.why fault.other
+
+  none_told : (judged : List (Why × Option Against)) → AreJudged judged
+      → first_fault (length earlier + 1) (former_number cue earlier) judged ≡ None
+      → AllByRecursion (KeepsRule list earlier cue) (rules_of judged)
+  none_told [] all none = tt
+  none_told ((rule, None) ∷ later) all none = (all.0, none_told later all.1 none)
+  none_told ((rule, Some broken) ∷ later) all none = cc
+
+  fault_told : (judged : List (Why × Option Against)) → AreJudged judged → (fault : RuleFault)
+      → first_fault (length earlier + 1) (former_number cue earlier) judged ≡ Some fault → IsFaultOf (rules_of judged) fault
+  fault_told [] all fault is = cc
+  fault_told ((rule, None) ∷ later) all fault is =
+      let rest = fault_told later all.1 fault is in
+      (rest.0, first_later (KeepsRule list earlier cue) rule (rules_of later) fault.why all.0 rest.1, rest.2)
+  fault_told ((rule, Some broken) ∷ later) all fault is =
+      let here : RuleFault =
+      record { why = rule; cue = length earlier + 1; other = other_of broken (former_number cue earlier) } in
+      let same : here ≡ fault = cc in
+      subst (IsFaultOf (rule ∷ rules_of later)) same
+      (refl, first_here (KeepsRule list earlier cue) rule (rules_of later) (λ keeps. names_break rule _ all.0 keeps), all.0)
+
+  -- a cue without a fault by the tests keeps the rules
+  faultless_keeps : fault_of list earlier cue ≡ None → AllByRecursion (KeepsRule list earlier cue) rules
+  faultless_keeps none =
+      subst (AllByRecursion (KeepsRule list earlier cue)) rules_are (none_told (verdicts list earlier cue) all_judged none)
+
+  -- and a fault by the tests is one
+  tested_is_fault : (fault : RuleFault) → fault_of list earlier cue ≡ Some fault → IsFaultOf rules fault
+  tested_is_fault fault is =
+      subst (λ (order : List Why). IsFaultOf order fault) rules_are (fault_told (verdicts list earlier cue) all_judged fault is)
+
+  -- a cue that keeps the rules has no fault by the tests
+  pub keeps_faultless : AllByRecursion (KeepsRule list earlier cue) rules → fault_of list earlier cue ≡ None
+  keeps_faultless keeps = by_fault (fault_of list earlier cue) refl
+    where
+      by_fault : (o : Option RuleFault) → fault_of list earlier cue ≡ o → o ≡ None
+      by_fault None is = refl
+      by_fault (Some fault) is =
+          let told = tested_is_fault fault is in
+          absurd (told.1.fails
+          (holds_at (KeepsRule list earlier cue) rules told.1.before fault.why told.1.after told.1.split keeps))
+
+  same_fault : (a b : RuleFault) → a.why ≡ b.why → a.cue ≡ b.cue → a.other ≡ b.other → a ≡ b
+  same_fault a b why_is cue_is other_is =
+      subst (λ (x : Why). a ≡ record { why = x; cue = b.cue; other = b.other }) why_is
+      (subst (λ (n : ℕ). a ≡ record { why = a.why; cue = n; other = b.other }) cue_is
+      (subst (λ (o : Option ℕ). a ≡ record { why = a.why; cue = a.cue; other = o }) other_is refl))
+
+  -- a fault of the cue is that of the tests
+  fault_is_tested : (fault : RuleFault) → IsFaultOf rules fault → fault_of list earlier cue ≡ Some fault
+  fault_is_tested fault is = by_fault (fault_of list earlier cue) refl
+    where
+      by_fault : (o : Option RuleFault) → fault_of list earlier cue ≡ o → o ≡ Some fault
+      by_fault None none =
+          absurd (is.1.fails
+          (holds_at (KeepsRule list earlier cue) rules is.1.before fault.why is.1.after is.1.split (faultless_keeps none)))
+      by_fault (Some other) tested =
+          let told = tested_is_fault other tested in
+          let one = one_first (KeepsRule list earlier cue) rules other.why fault.why told.1 is.1 in
+          let names = subst (λ (rule : Why). NamesOther list earlier cue rule other.other) one.0 told.2 in
+          ap Some (same_fault other fault one.0 (told.0 ∙ sym is.0) (names_one fault.why other.other fault.other names is.2))
+
+-- the cues keep the rules exactly where the tests find no fault
+pub keep_faultless : (list : Listing) (cues : List Cue) → KeepRules list cues → AreFaultless list cues
+keep_faultless list [] keep = tt
+keep_faultless list (cue ∷ earlier) keep = (keeps_faultless list earlier cue keep.0, keep_faultless list earlier keep.1)
+
+pub faultless_keep : (list : Listing) (cues : List Cue) → AreFaultless list cues → KeepRules list cues
+faultless_keep list [] faultless = tt
+faultless_keep list (cue ∷ earlier) faultless = (faultless_keeps list earlier cue faultless.0, faultless_keep list earlier faultless.1)
+
+-- a list whose cues have no fault keeps the rules, and the other way round
 pub faultless_ruled : (list : Listing) → AreFaultless list (reverse list.cues) → IsRuled list
-faultless_ruled list faultless = record {
-  channels = λ channel. sequence_from_back (slot_step list.rate) list.frames channel list.cues (faultless_sequence list channel (reverse list.cues) faultless);
-  on_slots = λ channel. all_on_from_back (IsOnSlots (cadence_of list.rate channel)) channel list.cues (faultless_on_slots list channel (reverse list.cues) faultless);
-  services = λ service. service_from_back list service list.cues (faultless_service list service (reverse list.cues) faultless);
+faultless_ruled list faultless = record { kept = faultless_keep list (reverse list.cues) faultless }
+
+pub ruled_faultless : (list : Listing) → IsRuled list → AreFaultless list (reverse list.cues)
+ruled_faultless list ruled = keep_faultless list (reverse list.cues) ruled.kept
+
+-- the cues of each lane of a list that keeps the rules keep them, and the other way round
+pub lanes_ruled : (list : Listing) → IsRuled list → AreLanesRuled list
+lanes_ruled list ruled = faultless_lanes list (ruled_faultless list ruled)
+
+pub ruled_from_lanes : (list : Listing) → All HidesWindow list.cues → AreLanesRuled list → IsRuled list
+ruled_from_lanes list hides lanes = faultless_ruled list (lanes_faultless list hides lanes)
+
+pub ruled_by_lanes : (list : Listing) → IsFormed list → AreLanesRuled list → IsRuled list
+ruled_by_lanes list formed lanes = ruled_from_lanes list hides lanes
+  where
+    hides : All HidesWindow list.cues
+    hides k d within win = window_hides (get_or list.cues k d).kind (get_or list.cues k d) win (formed.cues k d within).kind
+
+-- the fault that the tests find in a list
+pub record IsFaulty (list : Listing) (fault : RuleFault) : Type 0 where
+  pub earlier : List Cue
+  pub cue : Cue
+  pub later : List Cue
+  pub split : list.cues ≡ reverse earlier ++ cue ∷ later
+  pub kept : AreFaultless list earlier
+  pub broken : fault_of list earlier cue ≡ Some fault
+
+pub faulty_has : (list : Listing) (fault : RuleFault) → IsFaulty list fault → HasFault list fault
+faulty_has list fault is =
+    let told = tested_is_fault list is.earlier is.cue fault is.broken in
+    record {
+      earlier = is.earlier;
+      cue = is.cue;
+      later = is.later;
+      split = is.split;
+      kept = faultless_keep list is.earlier is.kept;
+      number = told.0;
+      rule = told.1;
+      other = told.2;
+    }
+
+pub has_faulty : (list : Listing) (fault : RuleFault) → HasFault list fault → IsFaulty list fault
+has_faulty list fault has = record {
+  earlier = has.earlier;
+  cue = has.cue;
+  later = has.later;
+  split = has.split;
+  kept = keep_faultless list has.earlier has.kept;
+  broken = fault_is_tested list has.earlier has.cue fault (has.number, has.rule, has.other);
 }
-
--- a channel is itself
-same_channel_refl : (channel : Chan) → same_channel channel channel ≡ true
-same_channel_refl chan.Cc1 = refl
-same_channel_refl chan.Cc2 = refl
-same_channel_refl chan.Cc3 = refl
-same_channel_refl chan.Cc4 = refl
-
--- a cue is on a channel, or of a service
-lane_cases : (k : Kind) (P : Type 0) → ((channel : Chan) → is_on channel k ≡ true → P)
-    → ((service : ℕ) → is_of_service service k ≡ true → P) → P
-lane_cases (kind.Pop channel) P line21 window = line21 channel (same_channel_refl channel)
-lane_cases (kind.Paint channel) P line21 window = line21 channel (same_channel_refl channel)
-lane_cases (kind.Roll channel rows) P line21 window = line21 channel (same_channel_refl channel)
-lane_cases (kind.Win w) P line21 window = window w.service (equal_itself w.service)
-
--- the former cue of a cue that is behind the newest on its channel
-after_newest : (step : ℕ) (cues : List Cue) (cue former : Cue) → IsBehind step cues cue → newest cues ≡ Some former → ComesAfter step former cue
-after_newest step [] cue former behind is = cc
-after_newest step (first ∷ cues) cue former behind is =
-    let same : first ≡ former = cc in subst (λ (c : Cue). ComesAfter step c cue) same behind
-
--- what holds of the cues of a lane with one cue more, where the cue is on it, and where it isn't
-abbrev ChannelsHold : Listing → List Cue → Type 0
-ChannelsHold list cues = (channel : Chan) → AreInSequenceBack (slot_step list.rate) list.frames (cues_on channel cues)
-
-abbrev SlotsHold : Listing → List Cue → Type 0
-SlotsHold list cues = (channel : Chan) → All (IsOnSlots (cadence_of list.rate channel)) (cues_on channel cues)
-
-abbrev ServicesHold : Listing → List Cue → Type 0
-ServicesHold list cues = (service : ℕ) → AreInServiceBack list service (cues_of_service service cues)
-
-channels_rest : (list : Listing) (cue : Cue) (earlier : List Cue) → ChannelsHold list (cue ∷ earlier) → ChannelsHold list earlier
-channels_rest list cue earlier hold channel = by_test (is_on channel cue.kind) (hold channel)
-  where
-    by_test : (b : Bool) → AreInSequenceBack (slot_step list.rate) list.frames (cond b (cue ∷ cues_on channel earlier) (cues_on channel earlier))
-        → AreInSequenceBack (slot_step list.rate) list.frames (cues_on channel earlier)
-    by_test true whole = whole.2
-    by_test false whole = whole
-
-slots_rest : (list : Listing) (cue : Cue) (earlier : List Cue) → SlotsHold list (cue ∷ earlier) → SlotsHold list earlier
-slots_rest list cue earlier hold channel = by_test (is_on channel cue.kind) (hold channel)
-  where
-    P : Cue → Type 0
-    P = IsOnSlots (cadence_of list.rate channel)
-
-    by_test : (b : Bool) → All P (cond b (cue ∷ cues_on channel earlier) (cues_on channel earlier)) → All P (cues_on channel earlier)
-    by_test true whole = All-tail P cue (cues_on channel earlier) whole
-    by_test false whole = whole
-
-slots_first : (list : Listing) (cue : Cue) (earlier : List Cue) (channel : Chan) → is_on channel cue.kind ≡ true
-    → All (IsOnSlots (cadence_of list.rate channel)) (cues_on channel (cue ∷ earlier)) → IsOnSlots (cadence_of list.rate channel) cue
-slots_first list cue earlier channel on hold = by_test (is_on channel cue.kind) on hold
-  where
-    P : Cue → Type 0
-    P = IsOnSlots (cadence_of list.rate channel)
-
-    by_test : (b : Bool) → b ≡ true → All P (cond b (cue ∷ cues_on channel earlier) (cues_on channel earlier)) → P cue
-    by_test true yes' whole = All-head P cue (cues_on channel earlier) whole
-    by_test false no' whole = cc
-
-services_rest : (list : Listing) (cue : Cue) (earlier : List Cue) → ServicesHold list (cue ∷ earlier) → ServicesHold list earlier
-services_rest list cue earlier hold service = by_test (is_of_service service cue.kind) (hold service)
-  where
-    by_test : (b : Bool)
-        → AreInServiceBack list service (cond b (cue ∷ cues_of_service service earlier) (cues_of_service service earlier))
-        → AreInServiceBack list service (cues_of_service service earlier)
-    by_test true whole = whole.2
-    by_test false whole = whole
-
-on_channel : (list : Listing) (cue : Cue) (earlier : List Cue) (channel : Chan) → is_on channel cue.kind ≡ true
-    → AreInSequenceBack (slot_step list.rate) list.frames (cues_on channel (cue ∷ earlier)) → IsOnSlots (cadence_of list.rate channel) cue → fault_of list earlier cue ≡ None
-on_channel list cue earlier channel on hold slots = by_test (is_on channel cue.kind) on hold
-  where
-    by_test : (b : Bool) → b ≡ true → AreInSequenceBack (slot_step list.rate) list.frames (cond b (cue ∷ cues_on channel earlier) (cues_on channel earlier))
-        → fault_of list earlier cue ≡ None
-    by_test true yes' whole =
-        channel_cue_faultless list earlier cue (line21_on channel cue.kind on) whole.0
-        (λ former is. after_newest (slot_step list.rate) (cues_on channel earlier) cue former whole.1 (sym (former_on channel cue earlier on) ∙ is)) channel on slots
-    by_test false no' whole = cc
-
-of_its_service : (list : Listing) (cue : Cue) (earlier : List Cue) (service : ℕ) → is_of_service service cue.kind ≡ true
-    → AllByRecursion IsCueFormed earlier → AreInServiceBack list service (cues_of_service service (cue ∷ earlier))
-    → fault_of list earlier cue ≡ None
-of_its_service list cue earlier service on formed hold = by_test (is_of_service service cue.kind) on hold
-  where
-    by_test : (b : Bool) → b ≡ true
-        → AreInServiceBack list service (cond b (cue ∷ cues_of_service service earlier) (cues_of_service service earlier))
-        → fault_of list earlier cue ≡ None
-    by_test true yes' whole = service_cue_faultless list service earlier cue on formed whole.0 whole.1
-    by_test false no' whole = cc
-
--- where the cues of each lane keep the rules, none has a fault
-none_faulty : (list : Listing) (cues : List Cue) → AllByRecursion IsCueFormed cues → ChannelsHold list cues → SlotsHold list cues → ServicesHold list cues
-    → AreFaultless list cues
-none_faulty list [] formed channels slots services = tt
-none_faulty list (cue ∷ earlier) formed channels slots services = (
-  lane_cases cue.kind (fault_of list earlier cue ≡ None)
-      (λ channel on. on_channel list cue earlier channel on (channels channel) (slots_first list cue earlier channel on (slots channel)))
-      (λ service on. of_its_service list cue earlier service on formed.1 (services service)),
-  none_faulty list earlier formed.1 (channels_rest list cue earlier channels) (slots_rest list cue earlier slots) (services_rest list cue earlier services),
-)
-
--- the cues of a list that keeps the rules have no fault
-pub ruled_faultless : (list : Listing) → IsFormed list → IsRuled list → AreFaultless list (reverse list.cues)
-ruled_faultless list formed ruled =
-    none_faulty list (reverse list.cues)
-    (recursion_from_All IsCueFormed (reverse list.cues) (All-reverse IsCueFormed list.cues formed.cues))
-    (λ channel. sequence_back (slot_step list.rate) list.frames channel list.cues (ruled.channels channel))
-    (λ channel. all_on_back (IsOnSlots (cadence_of list.rate channel)) channel list.cues (ruled.on_slots channel))
-    (λ service. service_to_back list service list.cues (ruled.services service))

@@ -6,9 +6,9 @@ use Rattle.std.proofs.lemmas.Bool.{eqb-true}
 use Rattle.cc_base.specs.Rate.{delay_frames_of}
 use Rattle.cc_base.specs.declared.rate.Rate.{Rate}
 use Rattle.cue_types.specs.Channels.{cues_of_service, is_of_service}
-use Rattle.cue_types.specs.Cues.{IsCueFormed, IsOfKind}
+use Rattle.cue_types.specs.Cues.{IsOfKind}
 use Rattle.cue_types.specs.Listing.{Listing, share_of}
-use Rattle.cue_lists.specs.Rules.{AreFaultless, fault_of}
+use Rattle.cue_lists.specs.Rules.Tests.{AreFaultless, fault_of}
 use Rattle.cue_types.specs.Hide.{hide_is}
 use Rattle.cue_lists.specs.Rules.Alternatives.{with_earlier}
 use Rattle.cue_lists.specs.Rules.Clash.{clash, shows_as_it_hides}
@@ -120,6 +120,10 @@ window_hides (kind.Pop channel) cue win formed = cc
 window_hides (kind.Paint channel) cue win formed = cc
 window_hides (kind.Roll channel rows) cue win formed = cc
 window_hides (kind.Win window) cue win formed = formed.1
+
+-- a window cue is hidden, as each is in a cue list
+abbrev pub HidesWindow : Cue → Type 0
+HidesWindow cue = is_win cue.kind ≡ true → IsSome cue.hide
 
 -- where no earlier cue passes a test, none has a number
 pub all_fail : (test : Cue → Bool) (cues : List Cue) → nearest_number test cues ≡ None → AllByRecursion (λ cue. test cue ≡ false) cues
@@ -263,7 +267,7 @@ first_is P (cue ∷ cues) former all is = let same : cue ≡ former = cc in subs
 
 -- a cue of a service of which the sentences hold, behind these cues
 module _ (list : Listing) (service : ℕ) (earlier : List Cue) (cue : Cue) (on : is_of_service service cue.kind ≡ true)
-    (formed : AllByRecursion IsCueFormed earlier) (sound : IsSoundWindow list service cue)
+    (hides : AllByRecursion HidesWindow earlier) (sound : IsSoundWindow list service cue)
     (clear : AllByRecursion (λ (former : Cue). KeepsClear list.rate former cue) (cues_of_service service earlier)) where
   win : is_win cue.kind ≡ true
   win = window_of_service service cue.kind on
@@ -275,11 +279,10 @@ module _ (list : Listing) (service : ℕ) (earlier : List Cue) (cue : Cue) (on :
 
   former_hides : (former : Cue) → former_cue cue earlier ≡ Some former → IsSome former.hide
   former_hides former is =
-      let its : IsCueFormed former =
-      of_former IsCueFormed (of_service IsCueFormed service earlier formed) former is in
+      let its : HidesWindow former = of_former HidesWindow (of_service HidesWindow service earlier hides) former is in
       let of : is_of_service service former.kind ≡ true =
       of_former (λ c. is_of_service service c.kind ≡ true) (cues_are_of_service service earlier) former is in
-      window_hides former.kind former (window_of_service service former.kind of) its.kind
+      its (window_of_service service former.kind of)
 
   nothing_line21 : (b : Bool) → (is_line21 cue.kind && b) ≡ false
   nothing_line21 b = rw (no_line21 cue.kind win) refl

@@ -1,12 +1,12 @@
 //! What holds of the rules, whatever the list.
 
-ghost use Rattle.std.specs.Prelude.{reverse};
 ghost use Rattle.cue_types.specs.Listing.{IsFormed, Listing};
-ghost use Rattle.cue_lists.specs.Rules.{AreFaultless, IsRuled};
+ghost use Rattle.cue_lists.specs.Rules.{IsRuled};
+ghost use Rattle.cue_lists.specs.Rules.Sentences.{AreLanesRuled};
 
-/// A list keeps the rules exactly where no cue of it has a fault.
-pub fn faultless_is_ruled()
-    ensures ruled { (list : Listing) → AreFaultless list (reverse list.cues) → IsRuled list }
-    ensures faultless { (list : Listing) → IsFormed list → IsRuled list
-        → AreFaultless list (reverse list.cues) }
+/// A list keeps the rules exactly where the cues of each of its channels and services do: each by itself, on a channel with the one
+/// before it, and of a service with all before it.
+pub fn ruled_by_lane()
+    ensures lanes { (list : Listing) → IsRuled list → AreLanesRuled list }
+    ensures ruled { (list : Listing) → IsFormed list → AreLanesRuled list → IsRuled list }
 {}

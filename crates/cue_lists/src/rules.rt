@@ -1,6 +1,7 @@
 ghost use Rattle.cue_types.specs.Listing.{most_cues};
 ghost use Rattle.std.specs.Prelude.{◌≡◌, ◌+◌, ◌≤◌, All, length, reverse, MatchResult, IsOk, IsErrOf};
-ghost use Rattle.cue_lists.specs.Rules.{AreFaultless, IsRuled, HasFault, AnswersFault, fault_of, first_fault, other_of};
+ghost use Rattle.cue_lists.specs.Rules.{IsRuled, HasFault};
+ghost use Rattle.cue_lists.specs.Rules.Tests.{AreFaultless, AnswersFault, fault_of, first_fault, other_of};
 ghost use Rattle.cue_types.specs.Cues.{IsCueFormed};
 ghost use Rattle.cue_lists.specs.Rules.Formers.{Remembers};
 ghost use Rattle.cue_lists.specs.declared.rules.RuleFault.{RuleFault};

@@ -23,6 +23,7 @@ use Rattle.line21_shown.proofs.SlotGridLemmas.{grid_before_slots, grid_in_slots,
 use Rattle.dual_fields.specs.Dual.{BothAreSeen, IsDual, Places, ShowsBoth}
 use Rattle.dual_fields.specs.Seen.{field_timeline}
 use Rattle.dual_fields.proofs.SeenLemmas.{IsShared, field_seen}
+use Rattle.cue_lists.proofs.RulesSaid.{lanes_ruled}
 
 module _ (first second : Listing) (of_list : Chan) (places : Places) (is : IsDual first second of_list places) where
   same_cadence : cadence_of second.rate of_list ≡ cadence_of first.rate of_list
@@ -54,20 +55,20 @@ module _ (first second : Listing) (of_list : Chan) (places : Places) (is : IsDua
   -- behind so many slots
   by_slots : (frame m : ℕ) → slot_from (cadence_of first.rate of_list) (suc frame) ≡ m → ShowsBoth first second of_list (after (field_of_channel of_list) (pairs_before (slot t) m)) frame
   by_slots frame zero come = record {
-    first_shown = λ settled. (none_yet (field_of_channel of_list)).0 ∙ sym (grid_before_slots (cadence_of first.rate of_list) frame come of_list first.cues (is.ruled.on_slots of_list));
+    first_shown = λ settled. (none_yet (field_of_channel of_list)).0 ∙ sym (grid_before_slots (cadence_of first.rate of_list) frame come of_list first.cues ((lanes_ruled first is.ruled).on_slots of_list));
     second_shown = λ settled. (none_yet (field_of_channel of_list)).1
-        ∙ sym (grid_before_slots (cadence_of second.rate of_list) frame (ap (λ c. slot_from c (suc frame)) same_cadence ∙ come) of_list second.cues (is.second_ruled.on_slots of_list));
+        ∙ sym (grid_before_slots (cadence_of second.rate of_list) frame (ap (λ c. slot_from c (suc frame)) same_cadence ∙ come) of_list second.cues ((lanes_ruled second is.second_ruled).on_slots of_list));
   }
   by_slots frame (suc k) come =
       let shows = field_seen of_list (slots_in_list first of_list) (slot_cues first of_list) (slot_cues second of_list) places.first places.second places.first_again places.second_again shared k in
       let come2 : slot_from (cadence_of second.rate of_list) (suc frame) ≡ suc k = ap (λ c. slot_from c (suc frame)) same_cadence ∙ come in
       record {
         first_shown = λ settled.
-            shows.first (settled_in_slots (cadence_of first.rate of_list) frame k come of_list first.cues (is.ruled.on_slots of_list) settled)
-            ∙ grid_in_slots (cadence_of first.rate of_list) frame k come of_list first.cues (is.ruled.on_slots of_list);
+            shows.first (settled_in_slots (cadence_of first.rate of_list) frame k come of_list first.cues ((lanes_ruled first is.ruled).on_slots of_list) settled)
+            ∙ grid_in_slots (cadence_of first.rate of_list) frame k come of_list first.cues ((lanes_ruled first is.ruled).on_slots of_list);
         second_shown = λ settled.
-            shows.second (settled_in_slots (cadence_of second.rate of_list) frame k come2 of_list second.cues (is.second_ruled.on_slots of_list) settled)
-            ∙ grid_in_slots (cadence_of second.rate of_list) frame k come2 of_list second.cues (is.second_ruled.on_slots of_list);
+            shows.second (settled_in_slots (cadence_of second.rate of_list) frame k come2 of_list second.cues ((lanes_ruled second is.second_ruled).on_slots of_list) settled)
+            ∙ grid_in_slots (cadence_of second.rate of_list) frame k come2 of_list second.cues ((lanes_ruled second is.second_ruled).on_slots of_list);
       }
 
 pub both_seen : BothAreSeen

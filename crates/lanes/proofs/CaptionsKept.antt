@@ -13,6 +13,7 @@ use Rattle.cue_lists.specs.Channels.{cues_of_service, is_of_service}
 use Rattle.cue_lists.specs.Cues.{IsCueFormed, IsOfKind}
 use Rattle.cue_lists.specs.Listing.{IsFormed, Listing}
 use Rattle.cue_lists.specs.Rules.{IsRuled}
+use Rattle.cue_lists.proofs.RulesSaid.{lanes_ruled}
 use Rattle.cue_lists.specs.Rules.Delay.{delay_of, delay_start, event_frames}
 use Rattle.cue_lists.specs.Rules.Sentences.{AreInService, IsSoundWindow, IsUndisturbed, KeepsClear}
 use Rattle.cue_lists.specs.Rules.WindowBusy.{same_window}
@@ -215,4 +216,4 @@ module _ (l : Listing) (service : ℕ) where
 
 -- the captions of each service of a list that keeps the rules do
 pub captions_kept : (l : Listing) (service : ℕ) → IsFormed l → IsRuled l → AreKept l.rate l.frames (service_captions l.rate service l.cues)
-captions_kept l service formed ruled = all_kept l service l.cues formed.cues (ruled.services service)
+captions_kept l service formed ruled = all_kept l service l.cues formed.cues ((lanes_ruled l ruled).services service)

@@ -6,6 +6,7 @@ use Rattle.cc_base.specs.declared.rate.Rate.{Rate}
 use Rattle.cue_lists.specs.Channels.{cues_of_service, is_of_service}
 use Rattle.cue_lists.specs.Listing.{Listing, share_of}
 use Rattle.cue_lists.specs.Rules.{IsRuled}
+use Rattle.cue_lists.proofs.RulesSaid.{lanes_ruled}
 use Rattle.cue_lists.specs.Rules.Sentences.{AreInService}
 use Rattle.cue_lists.specs.declared.cue.Cue.{Cue}
 use Rattle.cue_lists.specs.declared.cue.Kind.{Kind}
@@ -100,4 +101,4 @@ all_unsent l service none (cue ∷ cues) ruled = at cue.kind refl ruled (all_uns
 -- a service without a share has no captions and no units
 pub none_sent : (l : Listing) (service : ℕ) → IsRuled l → share_of l service ≡ None
     → (service_captions l.rate service l.cues ≡ []) × (service_chunks l.rate service l.cues ≡ [])
-none_sent l service ruled none = let all = all_unsent l service none l.cues (ruled.services service) in (all.captions, all.chunks 1)
+none_sent l service ruled none = let all = all_unsent l service none l.cues ((lanes_ruled l ruled).services service) in (all.captions, all.chunks 1)

@@ -13,6 +13,7 @@ use Rattle.cue_lists.specs.Cues.{IsCueFormed, IsOfKind}
 use Rattle.cue_lists.specs.Line21Cues.{base_row}
 use Rattle.cue_lists.specs.Listing.{IsFormed, Listing}
 use Rattle.cue_lists.specs.Rules.{IsRuled}
+use Rattle.cue_lists.proofs.RulesSaid.{lanes_ruled}
 use Rattle.cue_lists.specs.Rules.Cells.{covers, have_shared_cell, share_cell}
 use Rattle.cue_lists.specs.Rules.Lane.{is_line21, is_roll}
 use Rattle.cue_lists.specs.declared.cue.Cue.{Cue}
@@ -176,7 +177,7 @@ module _ (list : Listing) (formed : IsFormed list) (ruled : IsRuled list) (chann
   cues = cues_on channel list.cues
 
   sequence : AreInSequence (slot_step list.rate) list.frames cues
-  sequence = ruled.channels channel
+  sequence = (lanes_ruled list ruled).channels channel
 
   all_formed : AllByRecursion IsCueFormed cues
   all_formed = recursion_from_All IsCueFormed cues (cues_on_formed channel list.cues formed.cues)

@@ -15,6 +15,7 @@ use Rattle.cue_lists.specs.AuthoredGrid.{IsSettled, IsSettledFor, authored_grid,
 use Rattle.cue_lists.specs.Cues.{IsCueFormed}
 use Rattle.cue_lists.specs.Listing.{IsFormed, Listing}
 use Rattle.cue_lists.specs.Rules.{IsRuled}
+use Rattle.cue_lists.proofs.RulesSaid.{lanes_ruled}
 use Rattle.cue_lists.specs.Rules.Lane.{is_line21, is_pop}
 use Rattle.cue_lists.specs.declared.cue.Cue.{Cue}
 use Rattle.cue_lists.specs.declared.lane.Lane.TheVariants.{Channel}
@@ -204,11 +205,11 @@ slots_shown : (list : Listing) (channel : Chan) (placed : List ℕ) → IsFormed
     → (f m : ℕ) → slot_from (cadence_of list.rate channel) (suc f) ≡ m → IsSettled channel list.cues f
     → (acts (channel_timeline list channel placed) m).displayed ≡ authored_grid channel list.cues f
 slots_shown list channel placed formed ruled earliest f zero come settled =
-    sym (grid_before_slots (cadence_of list.rate channel) f come channel list.cues (ruled.on_slots channel))
+    sym (grid_before_slots (cadence_of list.rate channel) f come channel list.cues ((lanes_ruled list ruled).on_slots channel))
 slots_shown list channel placed formed ruled earliest f (suc k) come settled =
     channel_shown (slots_in_list list channel) channel (slot_cues list channel) placed (slot_cues_formed list formed channel) (slot_sequence list ruled channel) earliest.placed k
-    (settled_in_slots (cadence_of list.rate channel) f k come channel list.cues (ruled.on_slots channel) settled)
-    ∙ grid_in_slots (cadence_of list.rate channel) f k come channel list.cues (ruled.on_slots channel)
+    (settled_in_slots (cadence_of list.rate channel) f k come channel list.cues ((lanes_ruled list ruled).on_slots channel) settled)
+    ∙ grid_in_slots (cadence_of list.rate channel) f k come channel list.cues ((lanes_ruled list ruled).on_slots channel)
 
 -- the pairs of the first slots, the newest first
 pub newest_pairs : (t : Timeline) (n : ℕ) → reverse (column t n) ≡ pairs_before (slot t) n

@@ -1,7 +1,7 @@
 -- The list of a load keeps the rules: two captions of one lane have the same turn, so 270 frames lie between their LOADs.
 use Rattle.std.proofs.Common.{◌≡◌, ℕ, zero, suc, ◌+◌, ◌*◌, ◌<◌, ◌≤◌, ◌%◌, Bool, true, false, List, [], ◌∷◌, map, Some, All, refl, sym, subst, arith, eqb-true}
 use Rattle.std.specs.List.{AllByRecursion, range_with_len}
-use Rattle.std.proofs.lemmas.List.Elements.{All-cons, All-nil}
+use Rattle.std.proofs.lemmas.List.Elements.{All-cons, All-from_recursion, All-nil}
 use Rattle.cc_base.specs.declared.rate.Rate.TheVariants.{F2997}
 use Rattle.line21_codes.specs.declared.channels.Chan.{Chan}
 use Rattle.line21_codes.specs.declared.channels.Chan.TheVariants.{Cc1, Cc2, Cc3, Cc4}
@@ -9,6 +9,8 @@ use Rattle.line21_slots.specs.declared.cadence.Cadence.TheVariants.{EveryFrame}
 use Rattle.cue_types.specs.Channels.{cues_of_service, cues_on, is_of_service, is_on}
 use Rattle.cue_types.specs.declared.cue.Cue.{Cue}
 use Rattle.cue_lists.specs.Rules.{IsRuled}
+use Rattle.cue_lists.proofs.RulesSaid.{ruled_from_lanes}
+use Rattle.cue_lists.proofs.ServiceRules.{HidesWindow}
 use Rattle.cue_lists.specs.Rules.Sentences.{AreInSequence, AreInService, ComesAfter, IsOnSlots, IsSound, IsSoundWindow, KeepsClear}
 use Rattle.load_commands.specs.LoadList.{load_cue, load_kind, load_list, load_run}
 
@@ -174,9 +176,16 @@ in_service service count a (suc n) within = at (is_of_service service (load_cue 
         rw is (sound_here turn.0 turn.1, all_clear service a (a + 1) n turn.0 (omega arith), rest)
     at false is rest = rw is rest
 
+-- each caption is hidden
+hidden : (a n : ℕ) → AllByRecursion HidesWindow (captions a n)
+hidden a zero = tt
+hidden a (suc n) = (λ window. refl, hidden (a + 1) n)
+
 pub list_ruled : (count : ℕ) → IsRuled (load_list count)
-list_ruled count = record {
-  channels = λ channel. in_sequence channel (90 * count + 120) 0 count (omega arith);
-  on_slots = λ channel. on_slots channel 0 count;
-  services = λ service. in_service service count 0 count (omega arith);
-}
+list_ruled count =
+    ruled_from_lanes (load_list count) (All-from_recursion HidesWindow (captions 0 count) (hidden 0 count))
+    (record {
+      channels = λ channel. in_sequence channel (90 * count + 120) 0 count (omega arith);
+      on_slots = λ channel. on_slots channel 0 count;
+      services = λ service. in_service service count 0 count (omega arith);
+    })

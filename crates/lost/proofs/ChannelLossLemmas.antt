@@ -18,6 +18,7 @@ use Rattle.cue_lists.specs.Channels.{cues_on}
 use Rattle.cue_lists.specs.Line21Cues.{continues}
 use Rattle.cue_lists.specs.Listing.{IsFormed, Listing}
 use Rattle.cue_lists.specs.Rules.{IsRuled}
+use Rattle.cue_lists.proofs.RulesSaid.{lanes_ruled}
 use Rattle.cue_lists.specs.Rules.Sentences.{AreInSequence, IsOnSlots}
 use Rattle.cue_lists.specs.declared.cue.Cue.{Cue}
 use Rattle.cue_lists.specs.declared.lane.Lane.TheVariants.{Channel}
@@ -171,7 +172,7 @@ module _ (list : Listing) (channel : Chan) (placed : List ℕ) (formed : IsForme
   on_slot : (cue : Cue) (front behind : List Cue) → cues_on channel list.cues ≡ front ++ cue ∷ behind → IsOnSlots c cue
   on_slot cue front behind is =
       (all_behind (IsOnSlots c) front (cue ∷ behind)
-      (subst (AllByRecursion (IsOnSlots c)) is (recursion_from_All (IsOnSlots c) (cues_on channel list.cues) (ruled.on_slots channel)))).0
+      (subst (AllByRecursion (IsOnSlots c)) is (recursion_from_All (IsOnSlots c) (cues_on channel list.cues) ((lanes_ruled list ruled).on_slots channel)))).0
 
   -- so the channel is shown again
   shown_in_frames : (g : ℕ) (cue : Cue) → Resynchronises channel list.cues g cue → (f : ℕ) → cue.show ≤ f → (m : ℕ) → slot_from c (suc f) ≡ m
@@ -187,9 +188,9 @@ module _ (list : Listing) (channel : Chan) (placed : List ℕ) (formed : IsForme
       back_shown (field_of_channel channel) t (channel_captioned list channel placed formed ruled earliest) firsts (slots_in_list list channel) all found_at
       (slot_from c (suc g)) (timed_in_slots c cue) (cues_in_slots c (reverse again.earlier)) (cues_in_slots c again.later)
       (stands_in_slots cue again.earlier again.later again.stands) loaded n k is (omega arith)
-      (settled_in_slots c f n come channel list.cues (ruled.on_slots channel) settled)
+      (settled_in_slots c f n come channel list.cues ((lanes_ruled list ruled).on_slots channel) settled)
       ∙ authored_is channel (slot_cues list channel) n
-      ∙ grid_in_slots c f n come channel list.cues (ruled.on_slots channel)
+      ∙ grid_in_slots c f n come channel list.cues ((lanes_ruled list ruled).on_slots channel)
 
   -- without cues nothing begins
   nothing : (chunks : List FieldChunk) (slots : List ℕ) (n : ℕ) → chunks ≡ [] → stands chunks slots n ≡ None

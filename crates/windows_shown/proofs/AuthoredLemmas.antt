@@ -22,6 +22,7 @@ use Rattle.cue_types.specs.declared.cue.Kind.TheVariants.{Pop, Paint, Roll, Win}
 use Rattle.cue_types.specs.declared.cue.Run.{Run}
 use Rattle.cue_types.specs.declared.cue.WinCue.{WinCue}
 use Rattle.frame_scheduler.specs.Rules.{IsRuled}
+use Rattle.frame_scheduler.proofs.RulesSaid.{lanes_ruled}
 use Rattle.frame_scheduler.specs.Rules.Sentences.{AreInService}
 use Rattle.frame_scheduler.specs.AuthoredServiceGrid.{authored_window, cue_window, written_cells}
 use Rattle.dtvcc_author.specs.WindowCommands.{are_coloured, attribute_commands, commands_with, definition_of, run_commands, window_commands}
@@ -123,4 +124,4 @@ cues_as_authored (cue ∷ cues) formed apart = (
 pub list_as_authored : (list : Listing) → IsFormed list → IsRuled list → AllByRecursion IsLoadedAsAuthored list.cues
 list_as_authored list formed ruled =
     cues_as_authored list.cues (recursion_from_All IsCueFormed list.cues formed.cues)
-    (λ service. service_apart list service list.cues (ruled.services service))
+    (λ service. service_apart list service list.cues ((lanes_ruled list ruled).services service))

@@ -10,7 +10,8 @@ use Rattle.cue_types.specs.Cues.{IsCueFormed}
 use Rattle.cue_types.specs.Listing.{IsFormed}
 use Rattle.cue_types.specs.Shares.{IsShare}
 use Rattle.cue_types.specs.Windows.{IsWindowRun}
-use Rattle.frame_scheduler.specs.Rules.{IsRuled, verdicts}
+use Rattle.frame_scheduler.specs.Rules.{IsRuled}
+use Rattle.frame_scheduler.specs.Rules.Tests.{verdicts}
 use Rattle.frame_scheduler.specs.Rules.Examples.{window}
 use Rattle.frame_scheduler.proofs.RulesSaid.{faultless_ruled}
 use Rattle.dtvcc_codes.specs.CharacterSpellings.{dtvcc_spelling}

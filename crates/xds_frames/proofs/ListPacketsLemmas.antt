@@ -4,6 +4,7 @@ use Rattle.std.specs.Prelude.{length}
 use Rattle.cue_lists.specs.Channels.{cues_on}
 use Rattle.cue_lists.specs.Listing.{Listing}
 use Rattle.cue_lists.specs.Rules.{IsRuled}
+use Rattle.cue_lists.proofs.RulesSaid.{lanes_ruled}
 use Rattle.cue_lists.specs.Rules.Sentences.{AreInSequence}
 use Rattle.cue_lists.specs.declared.cue.Cue.{Cue}
 use Rattle.frame_scheduler.specs.SlotLists.{slots_in_list}
@@ -25,7 +26,7 @@ in_order step frames (cue ∷ (next ∷ cues)) is =
     (omega arith, in_order step frames (next ∷ cues) is.2)
 
 pub loaded_in_order : (list : Listing) → IsRuled list → AreLoadedInOrder list.cues
-loaded_in_order list ruled = in_order _ list.frames (cues_on Cc3 list.cues) (ruled.channels Cc3)
+loaded_in_order list ruled = in_order _ list.frames (cues_on Cc3 list.cues) ((lanes_ruled list ruled).channels Cc3)
 
 pub packets_laid : PacketsAreLaid
 packets_laid list placed listed packets is = record {

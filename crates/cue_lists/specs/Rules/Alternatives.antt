@@ -1,4 +1,4 @@
--- Believed: the program's answer stands on these definitions.
+-- Between crates: the program's answer stands on none of these definitions.
 -- The ways to break a rule, and the cue that each of them names beside the one that is judged.
 use Rattle.std.specs.Prelude.{ℕ, Bool, false, true, if◌then◌else◌, List, [], ◌∷◌, Option, Some, None}
 use Rattle.cue_types.specs.declared.cue.Cue.{Cue}

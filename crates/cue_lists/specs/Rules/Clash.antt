@@ -1,4 +1,4 @@
--- Believed: the program's answer stands on these definitions.
+-- Between crates: the program's answer stands on none of these definitions.
 -- Rule Clash: no two events of a channel need one slot. Each event is sent twice, in its frame and in the frame of its
 -- field's next slot, which is `step` frames on: one, and two at 59.94 and 60 frames a second.
 use Rattle.std.specs.Prelude.{ℕ, ◌+◌, ◌*◌, ◌&&◌, nat_lt, Bool, List, [], ◌∷◌, Option}

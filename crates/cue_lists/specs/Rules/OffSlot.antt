@@ -1,4 +1,4 @@
--- Believed: the program's answer stands on these definitions.
+-- Between crates: the program's answer stands on none of these definitions.
 -- Rule OffSlot: a line 21 cue is shown and hidden in frames in which the field of its channel has a slot.
 use Rattle.std.specs.Prelude.{ℕ, not, Bool, false, List, [], ◌∷◌}
 use Rattle.cc_base.specs.declared.rate.Rate.{Rate}

@@ -1,4 +1,4 @@
--- Believed: the program's answer stands on these definitions.
+-- Between crates: the program's answer stands on none of these definitions.
 -- Rule Order: the frames of a cue stand in order, and so do neighbouring cues of a lane.
 use Rattle.std.specs.Prelude.{◌+◌, ◌&&◌, nat_lt, nat_le, Bool, List, [], ◌∷◌, Option}
 use Rattle.cc_base.specs.declared.rate.Rate.{Rate}

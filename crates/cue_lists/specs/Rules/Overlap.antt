@@ -1,4 +1,4 @@
--- Believed: the program's answer stands on these definitions.
+-- Between crates: the program's answer stands on none of these definitions.
 -- Rule Overlap: no two runs of a cue write one cell, and no two cues of a channel are shown at once.
 use Rattle.std.specs.Prelude.{◌&&◌, nat_lt, Bool, List, [], ◌∷◌, Option}
 use Rattle.cue_types.specs.declared.cue.Cue.{Cue}

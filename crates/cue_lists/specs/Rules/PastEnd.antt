@@ -1,4 +1,4 @@
--- Believed: the program's answer stands on these definitions.
+-- Between crates: the program's answer stands on none of these definitions.
 -- Rule PastEnd: a cue has ended before the last frame has, its last event with the repeat counted.
 use Rattle.std.specs.Prelude.{ℕ, ◌+◌, ◌&&◌, nat_lt, nat_le, is_none, Bool, List, [], ◌∷◌}
 use Rattle.cue_types.specs.declared.cue.Cue.{Cue}

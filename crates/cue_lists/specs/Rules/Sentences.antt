@@ -1,18 +1,21 @@
--- Believed: the program's answer stands on these definitions.
--- The rules of a cue list as sentences on the cues of each channel and on those of each service, in the order of the
--- list. Among these, the cue before a cue is its former cue.
-use Rattle.std.specs.Prelude.{◌≡◌, ◌≢◌, ℕ, ◌+◌, ◌*◌, ◌<◌, ◌≤◌, true, false, List, [], ◌∷◌, None, IfSome, IsSome, MatchOption, ⊤}
+-- Between crates: the program's answer stands on none of these definitions.
+-- What the rules give of the cues of each channel and of those of each service, in the order of the list. Among these, the cue
+-- before a cue is its former cue.
+use Rattle.std.specs.Prelude.{◌≡◌, ◌≢◌, ℕ, ◌+◌, ◌*◌, ◌<◌, ◌≤◌, true, false, List, [], ◌∷◌, All, None, IfSome, IsSome, MatchOption, ⊤}
 use Rattle.std.specs.List.{AllByRecursion}
 use Rattle.cc_base.specs.declared.rate.Rate.{Rate}
 use Rattle.cc_base.specs.Rate.{delay_frames_of}
+use Rattle.line21_codes.specs.declared.channels.Chan.{Chan}
+use Rattle.cue_types.specs.Channels.{cues_of_service, cues_on}
 use Rattle.cue_types.specs.Line21Cues.{base_row}
 use Rattle.cue_types.specs.Listing.{Listing, share_of}
 use Rattle.cue_types.specs.Cells.{have_shared_cell}
-use Rattle.cue_lists.specs.Rules.Delay.{delay_of, delay_start, event_frames}
+pub use Rattle.cue_lists.specs.Rules.Delay.{IsUndisturbed}
+use Rattle.cue_lists.specs.Rules.Delay.{delay_of, delay_start}
 use Rattle.cue_types.specs.Lane.{is_pop, is_roll}
 use Rattle.cue_lists.specs.Rules.WindowBusy.{same_window}
 use Rattle.cue_types.specs.declared.cue.Cue.{Cue}
-use Rattle.line21_slots.specs.Cadences.{has_slot_in}
+use Rattle.line21_slots.specs.Cadences.{cadence_of, has_slot_in, slot_step}
 use Rattle.line21_slots.specs.declared.cadence.Cadence.{Cadence}
 
 -- what the rules ask of a cue on a channel by itself, in a list of so many frames; a step is that from slot to slot
@@ -74,12 +77,6 @@ pub record IsSoundWindow (list : Listing) (service : ℕ) (cue : Cue) : Type 0 w
   -- PastEnd: HIDE is below FRAMES
   pub ended : IfSome cue.hide (λ hide. hide < list.frames)
 
--- no event of the other cue lies strictly between the delay start and the SHOW of a cue that has a delay
-abbrev pub IsUndisturbed : Rate → Cue → Cue → Type 0
-IsUndisturbed rate cue other =
-    IfSome (delay_start rate cue)
-    (λ start. AllByRecursion (λ (frame : ℕ). start < frame → cue.show ≤ frame) (event_frames rate other))
-
 -- what the rules ask of a window cue and any cue of its service that stands before it
 pub record KeepsClear (rate : Rate) (earlier cue : Cue) : Type 0 where
   -- Order: LOAD isn't below that of the cue before
@@ -97,3 +94,9 @@ abbrev pub AreInService : Listing → ℕ → List Cue → Type 0
 AreInService list service [] = ⊤
 AreInService list service (cue ∷ later) =
     IsSoundWindow list service cue × AllByRecursion (KeepsClear list.rate cue) later × AreInService list service later
+
+-- the cues of each channel and those of each service keep the rules
+pub record AreLanesRuled (list : Listing) : Type 0 where
+  pub channels : (channel : Chan) → AreInSequence (slot_step list.rate) list.frames (cues_on channel list.cues)
+  pub on_slots : (channel : Chan) → All (IsOnSlots (cadence_of list.rate channel)) (cues_on channel list.cues)
+  pub services : (service : ℕ) → AreInService list service (cues_of_service service list.cues)

@@ -1,4 +1,4 @@
--- Believed: the program's answer stands on these definitions.
+-- Between crates: the program's answer stands on none of these definitions.
 -- Rule Share: a window cue's service has a share of the frame.
 use Rattle.std.specs.Prelude.{is_none, Bool, false, List, [], ◌∷◌}
 use Rattle.cue_types.specs.Listing.{Listing, share_of}

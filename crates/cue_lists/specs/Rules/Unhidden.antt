@@ -1,4 +1,4 @@
--- Believed: the program's answer stands on these definitions.
+-- Between crates: the program's answer stands on none of these definitions.
 -- Rule Unhidden: a cue that writes into the displayed memory loads when nothing of the former cue is left there, unless
 -- it continues it; and a cue without a HIDE is only ever continued.
 use Rattle.std.specs.Prelude.{◌&&◌, ◌||◌, not, nat_lt, is_none, Bool, List, [], ◌∷◌, Option}

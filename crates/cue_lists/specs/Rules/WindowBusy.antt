@@ -1,4 +1,4 @@
--- Believed: the program's answer stands on these definitions.
+-- Between crates: the program's answer stands on none of these definitions.
 -- Rule WindowBusy: a window cue loads when no earlier cue uses its window.
 use Rattle.std.specs.Prelude.{◌==◌, ◌&&◌, nat_lt, Bool, false, List, [], ◌∷◌}
 use Rattle.cue_types.specs.declared.cue.Cue.{Cue}

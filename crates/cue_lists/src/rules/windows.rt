@@ -2,7 +2,7 @@ ghost use Rattle.cue_types.specs.Cues.{IsCueFormed};
 ghost use Rattle.cue_types.specs.Listing.{Listing};
 ghost use Rattle.std.specs.Prelude.{◌≡◌, ◌≤◌, [], ◌∷◌, All, None, reverse};
 ghost use Rattle.std.specs.Option.{ForSome};
-ghost use Rattle.cue_lists.specs.Rules.{AreFaultless};
+ghost use Rattle.cue_lists.specs.Rules.Tests.{AreFaultless};
 ghost use Rattle.cue_lists.specs.Rules.Alternatives.{first_broken, with_earlier};
 ghost use Rattle.cue_lists.specs.Rules.Delay.{delay_of, delay_start, event_frames};
 ghost use Rattle.cue_lists.specs.Rules.DelayCovers.{delay_covers, delays_cross, same_service, delay_has, same_start};

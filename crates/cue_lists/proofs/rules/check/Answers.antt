@@ -1,7 +1,8 @@
 use Rattle.std.proofs.Common.{◌≡◌, ◌+◌, ◌≤◌, List, length, take, reverse, Ok, Err, subst, sym, ◌∙◌, ap, arith}
 use Rattle.std.proofs.lemmas.List.{length-take, take_all}
 use Rattle.std.proofs.lemmas.Result.{err_from_is_err_and}
-use Rattle.cue_lists.specs.Rules.{AreFaultless, IsRuled, HasFault}
+use Rattle.cue_lists.specs.Rules.{IsRuled, HasFault}
+use Rattle.cue_lists.specs.Rules.Tests.{AreFaultless}
 use Rattle.cue_types.specs.declared.cue.Cue.{Cue}
 use Rattle.cue_lists.proofs.RuleLists.{cue_formed, cues_formed, faultless_more, fault_here, ruled_ok, fault_err}
 use Rattle.cue_lists.proofs.RuleNearest.{before_more, length_before}

@@ -1,5 +1,5 @@
 use Rattle.std.proofs.Common.{take, reverse}
-use Rattle.cue_lists.specs.Rules.{AreFaultless}
+use Rattle.cue_lists.specs.Rules.Tests.{AreFaultless}
 use Rattle.cue_lists.specs.Rules.Formers.{Remembers}
 use Rattle.cue_lists.proofs.rules.check.Given as goal
 

@@ -1,5 +1,5 @@
 use Rattle.std.proofs.Common.{◌≡◌, drop}
-use Rattle.cue_lists.specs.Rules.{first_fault}
+use Rattle.cue_lists.specs.Rules.Tests.{first_fault}
 use Rattle.cue_lists.proofs.rules.first_fault.Given as goal
 
 abbrev pub invariant-loop-why : goal.invariant-loop-why

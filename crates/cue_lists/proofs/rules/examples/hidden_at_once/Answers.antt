@@ -1,7 +1,8 @@
 use Rattle.std.proofs.Common.{[], refl}
-use Rattle.cue_lists.specs.Rules.{verdicts}
+use Rattle.cue_lists.specs.Rules.Tests.{verdicts}
+use Rattle.cue_lists.proofs.RulesSaid.{faulty_has}
 use Rattle.cue_lists.proofs.rules.examples.hidden_at_once.Goals as goal
 
 pub returns : goal.returns
 unfolding verdicts
-returns c = record { earlier = []; cue = _; later = []; split = refl; kept = tt; broken = refl }
+returns c = faulty_has _ _ (record { earlier = []; cue = _; later = []; split = refl; kept = tt; broken = refl })

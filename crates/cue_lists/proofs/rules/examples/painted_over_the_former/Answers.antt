@@ -1,7 +1,8 @@
 use Rattle.std.proofs.Common.{[], ◌∷◌, refl}
-use Rattle.cue_lists.specs.Rules.{verdicts}
+use Rattle.cue_lists.specs.Rules.Tests.{verdicts}
+use Rattle.cue_lists.proofs.RulesSaid.{faulty_has}
 use Rattle.cue_lists.proofs.rules.examples.painted_over_the_former.Goals as goal
 
 pub returns : goal.returns
 unfolding verdicts
-returns c = record { earlier = _ ∷ []; cue = _; later = []; split = refl; kept = (refl, tt); broken = refl }
+returns c = faulty_has _ _ (record { earlier = _ ∷ []; cue = _; later = []; split = refl; kept = (refl, tt); broken = refl })
