@@ -1,4 +1,4 @@
--- Between crates: the program's answer stands on none of these definitions.
+-- Believed in part: the library's answers stand on some of these definitions.
 -- How the words of ancillary packets are read (SMPTE ST 291-1), one byte after another. A word is judged by the words of the
 -- open packet before it: the first three are the flag, then come DID, SDID and the count, then as many user words as the
 -- count says, then the checksum word. A word above 3FF is refused for its high bits, whatever stands before it.

@@ -1,4 +1,4 @@
--- Between crates: the program's answer stands on none of these definitions.
+-- Believed in part: the library's answers stand on some of these definitions.
 -- Builders: an accepted list on its way to ancillary packets, frame by frame.
 use Rattle.std.specs.Prelude.{◌≡◌, ◌+◌, ◌<◌, ◌++◌, ℕ, List, length, drop, Option, Some, None, IsSome}
 use Rattle.cue_lists.specs.Listing.{Listing}

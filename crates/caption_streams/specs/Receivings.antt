@@ -1,4 +1,4 @@
--- Between crates: the program's answer stands on none of these definitions.
+-- Believed: the library's answers stand on these definitions.
 -- What a receiver is that keeps the screens that were put last.
 use Rattle.grid_print.specs.Screens.{Screens}
 use Rattle.grid_print.specs.Shown.{last_shown}

@@ -1,4 +1,4 @@
--- Between crates: the program's answer stands on none of these definitions.
+-- Believed in part: the library's answers stand on some of these definitions.
 -- What a receiver is behind the bytes that it was fed, and what it shows behind their frames: one of whole files, or one of words of which
 -- frames may be missing.
 use Rattle.std.specs.Prelude.{◌≡◌, ◌≤◌, ℕ, ◌-◌, ◌++◌, ⊤, List, length, take, Option, Result, Ok, Err}

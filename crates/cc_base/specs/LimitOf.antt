@@ -1,4 +1,4 @@
--- Between crates: the program's answer stands on none of these definitions.
+-- Believed: the program's answer stands on these definitions.
 -- Limits: their names.
 use Rattle.std.specs.Prelude.{ℕ, List, codes}
 use Rattle.cc_base.specs.declared.limit_of.LimitOf.{LimitOf}

@@ -1,4 +1,4 @@
--- Believed in part: the program's answer stands on some of these definitions.
+-- Believed: the library's answers stand on these definitions.
 -- Frame rates of caption distribution packets (SMPTE ST 334-2, cdp_header; CTA-708-E, 4.4).
 use Rattle.std.specs.Prelude.{ℕ, ◌+◌, ◌-◌, ◌*◌, ◌/◌, ◌==◌, if◌then◌else◌, Option, Some, None}
 use Rattle.cc_base.specs.declared.rate.Rate.{Rate}

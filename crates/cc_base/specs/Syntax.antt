@@ -1,4 +1,4 @@
--- Between crates: the program's answer stands on none of these definitions.
+-- Believed in part: the library's answers stand on some of these definitions.
 -- Syntaxes: how items are read one after another, each judged by what is open before it. What is read of a list of items:
 -- whether one is refused, the parts that they make, and what is open behind them.
 use Rattle.std.specs.Prelude.{◌≡◌, ℕ, ◌%◌, ◌^◌, List, [], ◌∷◌, ◌++◌, length, None, ⊤}

@@ -1,4 +1,4 @@
--- Between crates: the program's answer stands on none of these definitions.
+-- Believed: the library's answers stand on these definitions.
 -- Reasons of refusals: their numbers and their names.
 use Rattle.std.specs.Prelude.{ℕ, List, codes}
 use Rattle.cc_base.specs.declared.why.Why.{Why}

@@ -1,4 +1,4 @@
--- Between crates: the program's answer stands on none of these definitions.
+-- Believed in part: the library's answers stand on some of these definitions.
 -- What is kept of the parts of ancillary packets: the reader of the open packet of captions with what it says so far and what judges
 -- its triplets, what the last whole frame says, both fields of line 21 (CTA-608-E), the services of DTVCC (CTA-708-E), and the number of
 -- whole frames.

@@ -1,4 +1,4 @@
--- Between crates: the program's answer stands on none of these definitions.
+-- Believed: the library's answers stand on these definitions.
 -- What the readers of the caption channel were fed of a file's triplets (CTA-708-E, sections 5 and 6).
 use Rattle.std.specs.Prelude.{List, reverse}
 use Rattle.std.specs.List.{flat_map}

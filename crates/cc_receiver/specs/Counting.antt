@@ -1,4 +1,4 @@
--- Between crates: the program's answer stands on none of these definitions.
+-- Believed in part: the library's answers stand on some of these definitions.
 -- Triplets that count, and those behind the last one of them (CTA-708-E, cc_valid).
 use Rattle.std.specs.Prelude.{◌≡◌, false, List, [], ◌∷◌, ◌++◌}
 use Rattle.cc_base.specs.Steps.{front_from}

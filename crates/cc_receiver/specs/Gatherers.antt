@@ -1,4 +1,4 @@
--- Between crates: the program's answer stands on none of these definitions.
+-- Believed: the library's answers stand on these definitions.
 -- What a frame keeps of the parts of a distribution packet.
 use Rattle.std.specs.Prelude.{◌≡◌, List}
 use Rattle.cdp_packets.specs.declared.parts.CdpPart.{CdpPart}

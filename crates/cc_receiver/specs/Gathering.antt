@@ -1,4 +1,4 @@
--- Between crates: the program's answer stands on none of these definitions.
+-- Believed: the library's answers stand on these definitions.
 -- What is gathered from the parts of a caption distribution packet (SMPTE ST 334-2; CTA-708-E, cc_data()): the rate, the
 -- flags, the counter, the bytes of the sections, and the triplets with the pairs of line 21 among those that count. There is
 -- room for 244 bytes and 81 triplets, which no packet passes.

@@ -1,4 +1,4 @@
--- Between crates: the program's answer stands on none of these definitions.
+-- Believed: the library's answers stand on these definitions.
 -- The pairs of line 21 in the parts of frames (CTA-708-E, cc_data(); CTA-608-E).
 use Rattle.std.specs.Prelude.{List, [], ◌∷◌, ◌++◌, reverse}
 use Rattle.cdp_packets.specs.declared.parts.CdpPart.{CdpPart}

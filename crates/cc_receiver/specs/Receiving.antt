@@ -1,4 +1,4 @@
--- Between crates: the program's answer stands on none of these definitions.
+-- Believed: the library's answers stand on these definitions.
 -- Whether bytes end with an ancillary packet, and with which (SMPTE ST 291-1, ST 334-1).
 use Rattle.std.specs.Prelude.{ℕ, List, [], ◌∷◌, ◌++◌}
 use Rattle.anc_words.specs.Packets.{AncillaryPacket, IsCaption}

@@ -1,4 +1,4 @@
--- Between crates: the program's answer stands on none of these definitions.
+-- Believed: the library's answers stand on these definitions.
 -- What whole frames give the services of DTVCC (CTA-708-E, sections 5 to 7): in each frame a tick of its rate, and then what its triplets
 -- say behind those of the frames before.
 use Rattle.std.specs.Prelude.{◌≡◌, List, [], ◌∷◌, ◌++◌, length}

@@ -1,4 +1,4 @@
--- Between crates: the program's answer stands on none of these definitions.
+-- Believed: the library's answers stand on these definitions.
 -- The triplets that are kept of a packet.
 use Rattle.std.specs.Prelude.{◌≡◌, List, length, take}
 use Rattle.cc_data.specs.declared.triplet.Triplet.{Triplet}

@@ -1,4 +1,4 @@
--- Between crates: the program's answer stands on none of these definitions.
+-- Believed in part: the library's answers stand on some of these definitions.
 -- The cues on a channel among the first cues of a list, the newest first, and the number of the newest one.
 use Rattle.std.specs.Prelude.{◌≡◌, ℕ, ◌<◌, true, List, [], ◌∷◌, reverse, slice_get, take, Option, Some, None}
 use Rattle.line21_codes.specs.declared.channels.Chan.{Chan}

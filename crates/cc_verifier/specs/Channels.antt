@@ -1,4 +1,4 @@
--- Between crates: the program's answer stands on none of these definitions.
+-- Believed in part: the library's answers stand on some of these definitions.
 -- What the checks of the four channels of line 21 know, and what they find (CTA-608-E).
 use Rattle.std.specs.Prelude.{◌≤◌, ℕ, Bool, List, Option, Some, None}
 use Rattle.line21_codes.specs.declared.channels.Chan.{Chan}

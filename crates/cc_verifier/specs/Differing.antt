@@ -1,4 +1,4 @@
--- Believed in part: the program's answer stands on some of these definitions.
+-- Believed: the library's answers stand on these definitions.
 -- Where a channel of line 21, or a service of DTVCC, shows something else than a cue list authors (CTA-608-E; 47 CFR 79.101; CTA-708-E,
 -- caption windows).
 use Rattle.std.specs.Prelude.{◌≡◌, ◌≢◌, ◌<◌, ℕ, List, Option}

@@ -1,4 +1,4 @@
--- Between crates: the program's answer stands on none of these definitions.
+-- Believed in part: the library's answers stand on some of these definitions.
 -- What the check of the services of DTVCC knows, and what it finds (CTA-708-E, caption windows).
 use Rattle.std.specs.Prelude.{◌≡◌, ◌<◌, ◌≤◌, ℕ, true, List, Option, Some, None}
 use Rattle.cue_types.specs.declared.cue.Cue.{Cue}

@@ -1,4 +1,4 @@
--- Between crates: the program's answer stands on none of these definitions.
+-- Believed in part: the library's answers stand on some of these definitions.
 -- Where the cursors of the windows stand at a frame: window 0 of service 1 has the first place, and window 7 of service 6 the last.
 use Rattle.std.specs.Prelude.{◌<◌, ◌+◌, ◌/◌, ◌%◌, ℕ, List, slice_index_or}
 use Rattle.cue_types.specs.declared.cue.Cue.{Cue}

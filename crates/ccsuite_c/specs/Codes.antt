@@ -1,4 +1,4 @@
--- Between crates: the program's answer stands on none of these definitions.
+-- Believed: the library's answers stand on these definitions.
 -- The codes of a call on a handle: those of the program's statuses, and four of its own.
 use Rattle.std.specs.Prelude.{ℕ}
 

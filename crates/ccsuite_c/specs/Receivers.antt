@@ -1,4 +1,4 @@
--- Between crates: the program's answer stands on none of these definitions.
+-- Believed: the library's answers stand on these definitions.
 -- Receivers, as C holds them.
 use Rattle.std.specs.Prelude.{◌≡◌, ◌⊎◌, ◌<◌, ◌≤◌, ◌++◌, ℕ, Bool, true, false, List, [], length, drop, Option, Some, None, Result}
 use Rattle.caption_streams.specs.Receivings.{last_screens, reception_of}

@@ -1,4 +1,4 @@
--- Between crates: the program's answer stands on none of these definitions.
+-- Believed: the library's answers stand on these definitions.
 -- Verifiers, as C holds them.
 use Rattle.std.specs.Prelude.{◌≡◌, ◌⊎◌, ℕ, List, Option, Some, None, Result, Ok, Bool, true, is_some}
 use Rattle.caption_streams.specs.Verifications.{AnswersVerified, BeginsVerifying, IsVerdictOn, finding_in, verifier_of}

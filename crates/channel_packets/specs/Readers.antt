@@ -1,4 +1,4 @@
--- Between crates: the program's answer stands on none of these definitions.
+-- Believed in part: the library's answers stand on some of these definitions.
 -- What a reader of channel packets keeps: the number of the last packet, and how many of its bytes are left.
 use Rattle.std.specs.Prelude.{◌≡◌, List, Option}
 use Rattle.cc_base.specs.declared.refusal.Refusal.{Refusal}

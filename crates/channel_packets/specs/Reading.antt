@@ -1,4 +1,4 @@
--- Between crates: the program's answer stands on none of these definitions.
+-- Believed: the library's answers stand on these definitions.
 -- How channel packets are read (CTA-708-E, section 5), one triplet after another. A triplet is judged by the number of the last
 -- packet, and by how many of its bytes are left. None is refused.
 use Rattle.std.specs.Prelude.{ℕ, ◌-◌, ◌==◌, if◌then◌else◌, Option, Some, None}

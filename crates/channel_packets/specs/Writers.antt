@@ -1,4 +1,4 @@
--- Between crates: the program's answer stands on none of these definitions.
+-- Believed: the library's answers stand on these definitions.
 -- What a writer of channel packets keeps: the number of the next one.
 use Rattle.std.specs.Prelude.{◌≡◌, ℕ, ◌%◌}
 use Rattle.channel_packets.specs.declared.writer.PacketWriter.{PacketWriter}

@@ -1,4 +1,4 @@
--- Between crates: the program's answer stands on none of these definitions.
+-- Believed: the library's answers stand on these definitions.
 -- The code with which a process ends, for each status.
 use Rattle.std.specs.Prelude.{ℕ}
 use Rattle.command_base.specs.declared.status.Status.{Status}

@@ -1,4 +1,4 @@
--- Between crates: the program's answer stands on none of these definitions.
+-- Believed in part: the library's answers stand on some of these definitions.
 -- What a reader keeps of the unfinished command: its bytes where it has at most seven in all, and else how many are still to come.
 use Rattle.std.specs.Prelude.{◌≡◌, ℕ, ◌-◌, ◌<◌, nat_le, if◌then◌else◌, List, [], length, Option, All, take}
 use Rattle.cc_base.specs.declared.refusal.Refusal.{Refusal}

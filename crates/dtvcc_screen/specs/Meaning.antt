@@ -1,4 +1,4 @@
--- Believed in part: the program's answer stands on some of these definitions.
+-- Believed: the library's answers stand on these definitions.
 -- What a service makes of its bytes, of the frames in which they come, and of resets from outside.
 use Rattle.std.specs.Prelude.{ℕ, ◌+◌, List, [], ◌∷◌}
 use Rattle.cc_base.specs.declared.rate.Rate.{Rate}

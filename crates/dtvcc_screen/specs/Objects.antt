@@ -1,4 +1,4 @@
--- Between crates: the program's answer stands on none of these definitions.
+-- Believed in part: the library's answers stand on some of these definitions.
 -- What the objects of the program stand for.
 use Rattle.std.specs.Prelude.{◌≡◌, ℕ, ◌<◌, Bool, false, List, [], All, Option, Some, None, slice_get}
 use Rattle.cc_base.specs.Steps.{front_from}

@@ -1,4 +1,4 @@
--- Believed in part: the program's answer stands on some of these definitions.
+-- Believed: the library's answers stand on these definitions.
 -- What a viewer sees of a service: of each window what is shown of it (CTA-708-E, caption windows).
 use Rattle.std.specs.Prelude.{◌≡◌, ℕ, Option}
 use Rattle.dtvcc_windows.specs.Showing.{ShownWindow, shown}

@@ -1,4 +1,4 @@
--- Believed in part: the program's answer stands on some of these definitions.
+-- Believed: the library's answers stand on these definitions.
 -- The numbers of the services of a caption channel (CTA-708-E, caption channel services).
 use Rattle.std.specs.Prelude.{◌≡◌, ℕ, ◌<◌, ◌≤◌, Bool, true, false, Option, Some, None}
 

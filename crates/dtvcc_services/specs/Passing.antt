@@ -1,4 +1,4 @@
--- Between crates: the program's answer stands on none of these definitions.
+-- Believed in part: the library's answers stand on some of these definitions.
 -- A pass over all services, in which each takes the same step.
 use Rattle.std.specs.Prelude.{◌≡◌, ℕ, ◌≤◌, min, Bool, false, List, Option, Some, None, length, slice_get}
 use Rattle.dtvcc_screen.specs.Cores.{CoreState}

@@ -1,4 +1,4 @@
--- Between crates: the program's answer stands on none of these definitions.
+-- Believed: the library's answers stand on these definitions.
 -- A list of cells, row by row, as a map of a window's cells.
 use Rattle.std.specs.Prelude.{ℕ, ◌+◌, ◌*◌, if◌then◌else◌, List, Option, None, slice_index_or}
 use Rattle.dtvcc_windows.specs.declared.cells.DCell.{DCell}

@@ -1,4 +1,4 @@
--- Between crates: the program's answer stands on none of these definitions.
+-- Believed: the program's answer stands on these definitions.
 -- The names of misfits, as they are printed.
 use Rattle.std.specs.Prelude.{ℕ, List, codes}
 use Rattle.findings.specs.declared.misfit.MisfitKind.{MisfitKind}

@@ -1,4 +1,4 @@
--- Believed in part: the program's answer stands on some of these definitions.
+-- Believed: the library's answers stand on these definitions.
 -- How the frames of a programme are carried: the triplets of a frame in one cc_data section of a caption distribution packet
 -- (SMPTE ST 334-2) that says that captions are carried and active, with the frame's number as its counter; and that in an
 -- ancillary packet of captions (SMPTE ST 334-1).

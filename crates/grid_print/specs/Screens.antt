@@ -1,4 +1,4 @@
--- Believed in part: the program's answer stands on some of these definitions.
+-- Believed: the library's answers stand on these definitions.
 -- What a viewer sees behind frames: the grid of each channel of line 21, and the windows of each service of DTVCC (CTA-608-E; CTA-708-E).
 use Rattle.std.specs.Prelude.{◌≡◌, ◌<◌, ℕ, List, Option}
 use Rattle.cdp_packets.specs.Packets.{Frame}

@@ -1,4 +1,4 @@
--- Between crates: the program's answer stands on none of these definitions.
+-- Believed: the library's answers stand on these definitions.
 -- What was shown last.
 use Rattle.std.specs.Prelude.{◌-◌}
 use Rattle.line21_codes.specs.declared.channels.Chan.{Chan}

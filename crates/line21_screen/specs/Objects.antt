@@ -1,4 +1,4 @@
--- Between crates: the program's answer stands on none of these definitions.
+-- Believed: the library's answers stand on these definitions.
 -- What the objects of the program stand for, and which lists of pairs lead to a field.
 use Rattle.std.specs.Prelude.{◌≡◌, ℕ, ◌+◌, ◌-◌, ◌*◌, if◌then◌else◌, List, Option, None, slice_index_or}
 use Rattle.line21_codes.specs.declared.channels.FieldNumber.{FieldNumber}

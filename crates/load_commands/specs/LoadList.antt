@@ -1,4 +1,4 @@
--- Believed in part: the program's answer stands on some of these definitions.
+-- Believed: the program's answer stands on these definitions.
 -- The list of a load: so many captions, in turn pop-on on CC1, in a window of service 1 behind a delay of a second, and paint-on
 -- on CC3, one every 90 frames at 29.97 frames a second.
 use Rattle.std.specs.Prelude.{ℕ, zero, suc, ◌+◌, ◌*◌, ◌%◌, false, List, [], ◌∷◌, map, Some, None}

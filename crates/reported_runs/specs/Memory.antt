@@ -1,4 +1,4 @@
--- Between crates: the program's answer stands on none of these definitions.
+-- Believed in part: the library's answers stand on some of these definitions.
 -- Runs of commands over memory.
 use Rattle.std.specs.Prelude.{◌≡◌, ◌≢◌, ◌≤◌, ◌<◌, ◌⊎◌, ◌++◌, ℕ, List, [], length, drop, take, Some}
 use Rattle.ccsuite_cli.specs.Answer.{Answer}

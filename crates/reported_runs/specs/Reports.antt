@@ -1,4 +1,4 @@
--- Between crates: the program's answer stands on none of these definitions.
+-- Believed: the library's answers stand on these definitions.
 -- What a report tells of a status.
 use Rattle.std.specs.Prelude.{ℕ, List, ◌++◌, Option, Some, None, codes, drop, length, replicate, take}
 use Rattle.cc_base.specs.Rate.{rate_code}

@@ -1,4 +1,4 @@
--- Between crates: the program's answer stands on none of these definitions.
+-- Believed: the library's answers stand on these definitions.
 -- What the services of DTVCC say of the parts of distribution packets (CTA-708-E, sections 5 and 6). A triplet of cc_data is tried
 -- as soon as its second byte has come, with a third byte 00, and it is taken when it is whole: what it brings of channel packets and
 -- their service blocks is read behind the whole triplets before it.

@@ -1,4 +1,4 @@
--- Believed in part: the program's answer stands on some of these definitions.
+-- Believed: the program's answer stands on these definitions.
 -- The text of a time code: HH:MM:SS:FF, or HH:MM:SS;FF with drop frame, two digits each.
 use Rattle.std.specs.Prelude.{◌≡◌, ℕ, ◌+◌, ◌-◌, ◌*◌, ◌/◌, ◌%◌, ◌<◌, ◌==◌, ◌&&◌, ◌||◌, Bool, if◌then◌else◌, nat_le, List, [], ◌∷◌, Option, Some, None}
 use Rattle.time_codes.specs.declared.time_code.TimeCode.{TimeCode}

@@ -1,4 +1,4 @@
--- Between crates: the program's answer stands on none of these definitions.
+-- Believed in part: the library's answers stand on some of these definitions.
 -- What becomes of the parts of ancillary packets (SMPTE ST 291-1, ST 334-1): a packet of captions carries a distribution
 -- packet (SMPTE ST 334-2), whose length is the count and whose bytes are the low bits of the user words. It is a frame once
 -- its checksum word has come, and other packets change nothing. The layers above judge the parts of distribution packets, all

@@ -1,4 +1,4 @@
--- Believed in part: the program's answer stands on some of these definitions.
+-- Believed: the library's answers stand on these definitions.
 -- Where the bytes of a words file offend (SMPTE ST 291-1, ST 334-1 and ST 334-2; CTA-708-E). The layers above distribution
 -- packets are a parameter.
 use Rattle.std.specs.Prelude.{◌≡◌, ℕ, ◌%◌, ◌^◌, ◌≤◌, ◌⊎◌, List, [], ◌∷◌, ◌++◌, length}
