@@ -1,4 +1,4 @@
--- Believed in part: the program's answer stands on some of these definitions.
+-- Believed: the program's answer stands on these definitions.
 -- What a run answers: it realises what its command makes of bytes.
 use Rattle.std.specs.Prelude.{◌≡◌, [], if◌then◌else◌, Option, Some, None, ⊤}
 use Rattle.command_base.specs.Ends.{Ends, ends}
