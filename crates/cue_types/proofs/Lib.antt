@@ -1,1 +1,2 @@
 mod ColouredLemmas
+pub mod FormedLemmas

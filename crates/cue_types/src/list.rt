@@ -1,9 +1,11 @@
-ghost use Rattle.std.specs.Prelude.{◌≡◌};
+ghost use Rattle.std.specs.Prelude.{◌≡◌, ◌<◌, [], ◌∷◌, ◌++◌, length, List, OnErr, OnOk};
+ghost use Rattle.cue_types.specs.Cues.{IsCueFormed};
 ghost use Rattle.cue_types.specs.Shares.{share_room};
 
 use crate::cue::Cue;
 use crate::head::Head;
 use cc_base::Rate;
+use std::alloc::AllocError;
 use std::marker::Model;
 
 /// The most frames of a cue list.
@@ -54,7 +56,8 @@ impl Model for CueList {
 }
 
 impl CueList {
-    ghost use Rattle.cue_types.specs.Listing.{IsFormed, share_of};
+    ghost use Rattle.cue_types.specs.Listing.{IsFormed, most_cues, share_of};
+    ghost use Rattle.cue_types.specs.declared.cue.Cue.{Cue};
 
     /// The list of these parts, which are in their ranges. It keeps no version, and takes no memory.
     pub fn new(head: Head, shares: Vec<Share>, cues: Vec<Cue>) -> CueList
@@ -93,6 +96,26 @@ impl CueList {
             .iter()
             .find(|share| share.service == service)
             .map(|share| share.bytes)
+    }
+
+    /// Adds a cue at the end of a list that has fewer than 20,000. Without memory the list stays as it was.
+    pub fn push(&mut self, cue: Cue) -> Result<(), AllocError>
+        requires formed { IsCueFormed cue }
+        requires few { length self.old.cues < most_cues }
+        ensures ok { OnOk result
+            (self.new ≡ record self.old { cues = self.old.cues ++ cue ∷ [] }) }
+        ensures err { OnErr result (self.new ≡ self.old) }
+    {
+        self.cues.push(cue)?;
+        Ok(())
+    }
+
+    /// Takes off the last cue, if there is one.
+    pub fn pop(&mut self)
+        ensures { (cues : List Cue) (cue : Cue) → self.old.cues ≡ cues ++ cue ∷ []
+            → self.new ≡ record self.old { cues = cues } }
+    {
+        self.cues.pop();
     }
 
     /// The cues in the order of their records, at most 20,000.
