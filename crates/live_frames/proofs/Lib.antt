@@ -3,4 +3,5 @@ mod EventFronts
 mod FieldFronts
 mod FrontsLemmas
 mod LawLemmas
+mod LiveLemmas
 mod ServiceFronts

@@ -1,3 +1,5 @@
 pub mod Fronts
 pub mod LaneFronts
+pub mod LeftOut
+pub mod Lives
 pub mod Longer

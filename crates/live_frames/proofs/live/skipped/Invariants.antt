@@ -1,0 +1,11 @@
+use Rattle.std.proofs.Common.{◌≡◌, ◌-◌, ◌≤◌}
+use Rattle.frame_scheduler.specs.Columns.{Columns}
+use Rattle.frame_scheduler.specs.Frames.{GivesFrom, frames_left}
+use Rattle.live_frames.proofs.live.skipped.Given as goal
+
+-- so many frames are passed
+abbrev pub invariant-loop : goal.invariant-loop
+invariant-loop l = record {
+  left : frames_left l.plan ≡ frames_left l.initial.plan - l.counter;
+  gives : (columns : Columns) → GivesFrom columns 0 l.initial.plan → l.frames ≤ frames_left l.initial.plan → GivesFrom columns l.counter l.plan;
+}
