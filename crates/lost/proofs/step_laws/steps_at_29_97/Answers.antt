@@ -1,6 +1,6 @@
 use Rattle.std.proofs.Common.{◌≡◌, ℕ, inl, inr, [], ◌∷◌, arith, refl}
 use Rattle.std.specs.List.{range_with_len}
-use Rattle.cue_lists.specs.Rules.{verdicts}
+use Rattle.cue_lists.specs.Rules.Tests.{verdicts}
 use Rattle.cue_lists.proofs.RulesSaid.{faultless_ruled}
 use Rattle.line21_codes.specs.declared.channels.Chan.TheVariants.{Cc1}
 use Rattle.lost.proofs.StepExampleLemmas.{none_of_two, one_apart, rows_delivered}
