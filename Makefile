@@ -46,6 +46,8 @@ DOCUMENTS = README.md docs/MANUAL.md docs/COOKBOOK.md docs/PROVED.md docs/GLOSSA
 EXAMPLES = $(wildcard examples/*.*)
 # the scripts that are programs of their own: video.py is ccsuite-video
 SCRIPTS = video cdp subtitles
+# what the scripts import
+MODULES = passage
 # the programs that shells complete
 COMPLETED = ccsuite ccsuite-subtitles
 # a document as it is installed: it names the files where they are
@@ -168,6 +170,7 @@ install: $(PROGRAM) $(LIBRARY)
 	$(foreach page,$(wildcard man/*.1),$(call put_document,$(page),$(mandir)/man1))
 	$(foreach name,$(SCRIPTS),install -m 755 examples/$(name).py $(DESTDIR)$(datadir)/ccsuite/$(name).py && \
 	    ln -sfr $(DESTDIR)$(datadir)/ccsuite/$(name).py $(DESTDIR)$(bindir)/ccsuite-$(name) &&) :
+	install -m 644 $(MODULES:%=examples/%.py) $(DESTDIR)$(datadir)/ccsuite
 	$(foreach name,$(COMPLETED),install -D -m 644 completions/$(name).bash $(DESTDIR)$(bashdir)/$(name) && \
 	    install -D -m 644 completions/_$(name) $(DESTDIR)$(zshdir)/_$(name) && \
 	    install -D -m 644 completions/$(name).fish $(DESTDIR)$(fishdir)/$(name).fish &&) :

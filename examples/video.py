@@ -25,15 +25,8 @@ import subprocess
 import sys
 import tempfile
 
-import gi
-
-gi.require_version("Gst", "1.0")
-from gi.repository import Gst  # noqa: E402
-
 sys.dont_write_bytecode = True
 from cdp import ancillary_of, from_words  # noqa: E402
-
-Gst.init(None)
 
 # video.py, or ccsuite-video where it is installed
 NAME = pathlib.Path(sys.argv[0]).name
@@ -48,11 +41,6 @@ NULL_PAIRS = [bytes.fromhex("FC8080"), bytes.fromhex("FD8080")]
 A53 = b"GA94\x03"  # ATSC, and cc_data
 COUNTRY = b"\xb5\x00\x31"  # the United States, and ATSC's number as a provider
 START = b"\x00\x00\x01"
-# by GStreamer's name of a stream: its parser, and the form in which a buffer is a picture
-PARSERS = {
-    "video/x-h264": ("h264parse", "video/x-h264,stream-format=byte-stream,alignment=au"),
-    "video/mpeg": ("mpegvideoparse", "video/mpeg,mpegversion=2,systemstream=false"),
-}
 # by ffprobe's name of a kind of file
 MUXERS = {"mpegts": "mpegtsmux", "mov": "qtmux", "mp4": "mp4mux", "mxf": "mxfmux"}
 
@@ -273,87 +261,6 @@ def h264_with(data, triplets):
 # ---- into: what GStreamer reads and writes ----------------------------------------------------------------------------------------------
 
 
-class Change(Gst.Element):
-    """An element that puts `change` of a picture's time and its data in the place of the data."""
-
-    __gstmetadata__ = ("Change", "Filter/Video", "changes the data of each picture", "ccsuite")
-    __gsttemplates__ = tuple(Gst.PadTemplate.new(name, direction, Gst.PadPresence.ALWAYS, Gst.Caps.new_any())
-                             for name, direction in (("sink", Gst.PadDirection.SINK), ("src", Gst.PadDirection.SRC)))
-
-    def __init__(self, change):
-        super().__init__()
-        self.change = change
-        self.taken, self.given = (Gst.Pad.new_from_template(self.get_pad_template(it), it) for it in ("sink", "src"))
-        self.taken.set_chain_function_full(self.chain, None)
-        self.add_pad(self.taken)
-        self.add_pad(self.given)
-
-    def chain(self, _pad, _parent, old):
-        new = Gst.Buffer.new_wrapped(self.change(old.pts, old.extract_dup(0, old.get_size())))
-        new.pts, new.dts, new.duration = old.pts, old.dts, old.duration
-        new.set_flags(old.get_flags())
-        return self.given.push(new)
-
-
-class Passage:
-    """A file's way through GStreamer to a muxer, or to nothing: `change` goes over the data of each picture, and all else passes as it is."""
-
-    def __init__(self, file, change, muxer=None):
-        self.change, self.has_pictures = change, False
-        self.pipeline = Gst.parse_launch("filesrc name=file ! parsebin name=streams")
-        self.pipeline.get_by_name("file").set_property("location", file)
-        self.pipeline.get_by_name("streams").connect("pad-added", self.add)
-        self.muxer = muxer and self.element(muxer[0])
-        if muxer:
-            sink = self.element("filesink")
-            sink.set_property("location", muxer[1])
-            self.muxer.link(sink)
-
-    def element(self, name):
-        made = name if isinstance(name, Gst.Element) else Gst.ElementFactory.make(name)
-        if made is None:
-            refuse(f"GStreamer's {name} isn't installed")
-        self.pipeline.add(made)
-        made.sync_state_with_parent()
-        return made
-
-    def add(self, _streams, pad):
-        """Takes a stream of the file on: pictures by way of the change."""
-        name = pad.query_caps(None).get_structure(0).get_name()
-        if name in PARSERS and not self.has_pictures:
-            self.has_pictures = True
-            pad = self.through_change(pad, *PARSERS[name])
-        queue = self.element("queue")
-        # as much as streams may lie apart in a file
-        for limit, most in (("time", 0), ("buffers", 0), ("bytes", 100_000_000)):
-            queue.set_property(f"max-size-{limit}", most)
-        pad.link(queue.get_static_pad("sink"))
-        given = queue.get_static_pad("src")
-        sink = self.muxer and self.muxer.get_compatible_pad(given, pad.query_caps(None))
-        if sink is None:
-            sink = self.element("fakesink").get_static_pad("sink")
-        given.link(sink)
-
-    def through_change(self, pad, parser, form):
-        """The pad at which the pictures of a pad come out changed."""
-        caps = self.element("capsfilter")
-        caps.set_property("caps", Gst.Caps.from_string(form))
-        row = [self.element(parser), caps, self.element(Change(self.change)), self.element(parser)]
-        for first, second in itertools.pairwise(row):
-            first.link(second)
-        pad.link(row[0].get_static_pad("sink"))
-        return row[-1].get_static_pad("src")
-
-    def run(self):
-        self.pipeline.set_state(Gst.State.PLAYING)
-        message = self.pipeline.get_bus().timed_pop_filtered(Gst.CLOCK_TIME_NONE, Gst.MessageType.EOS | Gst.MessageType.ERROR)
-        self.pipeline.set_state(Gst.State.NULL)
-        if message.type == Gst.MessageType.ERROR:
-            refuse(f"GStreamer: {message.parse_error()[0].message}")
-        if not self.has_pictures:
-            refuse("the file has no H.264 or MPEG-2 video that GStreamer reads")
-
-
 def muxer_of(file):
     """The muxer that writes a file of the same kind."""
     form = fields_of("".join(run_ffprobe("-show_entries", "format=format_name:format_tags=major_brand", file)))
@@ -365,6 +272,15 @@ def muxer_of(file):
     return MUXERS[kind]
 
 
+def pass_through(file, change, muxer=None):
+    """Runs a file through GStreamer, which `out` does without."""
+    try:
+        from passage import Passage
+    except (ImportError, ValueError) as error:
+        refuse(f"GStreamer for Python isn't installed (Debian's python3-gst-1.0): {error}")
+    Passage(file, change, refuse, muxer).run()
+
+
 def numbers_of(file):
     """The number of each picture by its time."""
     times = []
@@ -373,8 +289,8 @@ def numbers_of(file):
         times.append(time)
         return data
 
-    Passage(file, note).run()
-    if Gst.CLOCK_TIME_NONE in times or len(set(times)) < len(times):
+    pass_through(file, note)
+    if None in times or len(set(times)) < len(times):
         refuse("not each picture has a time of its own")
     return {time: number for number, time in enumerate(sorted(times))}
 
@@ -410,8 +326,7 @@ def into(file):
     captions += [[]] * (len(numbers) - given)
     with tempfile.TemporaryDirectory() as folder:
         written = pathlib.Path(folder, "written")
-        passage = Passage(file, lambda time, data: with_captions(data, captions[numbers[time]]), (muxer, str(written)))
-        passage.run()
+        pass_through(file, lambda time, data: with_captions(data, captions[numbers[time]]), (muxer, str(written)))
         for number, (seen, wanted) in enumerate(itertools.zip_longest(picture_captions(written), captions)):
             if seen != wanted:
                 refuse(f"ffmpeg reads other captions in picture {number} of what was written")
@@ -427,6 +342,8 @@ def main():
     if command is None:
         sys.exit(f"usage: {NAME} out FILE > WORDS | {NAME} into VIDEO < WORDS > FILE")
     signal.signal(signal.SIGPIPE, signal.SIG_DFL)
+    if not shutil.which("ffprobe"):
+        refuse("ffmpeg isn't installed")
     if not os.access(sys.argv[2], os.R_OK):
         refuse(f"{sys.argv[2]} can't be read")
     command(sys.argv[2])

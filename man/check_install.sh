@@ -35,6 +35,7 @@ wanted() {
         echo "644 share/fish/vendor_completions.d/$name.fish"
         echo "644 share/zsh/$1/_$name"
     done
+    echo "644 share/ccsuite/passage.py"
     echo "644 share/ccsuite/viewer.html"
     echo "644 share/ccsuite/viewer.png"
     echo "644 share/doc/ccsuite/copyright"
