@@ -20,7 +20,7 @@ use Rattle.rate_convert.specs.Halvers.{halves_words, misfit_of}
 use Rattle.rate_convert.specs.Misfits.{AreFit, HasMisfit}
 use Rattle.rate_convert.specs.declared.converter.Converter.{Converter}
 use Rattle.rate_convert.specs.declared.halver.Halver.{Halver}
-use Rattle.services_files.specs.CaptionChannel.{caption_channel}
+use Rattle.cc_receiver.specs.CaptionChannel.{caption_channel}
 use Rattle.text_output.proofs.PageLemmas.{gathered_more, piece_added}
 use Rattle.text_output.specs.Gathered.{Gathers, GathersText, IsGathered}
 use Rattle.words_files.proofs.FramesOfLemmas.{file_frames}

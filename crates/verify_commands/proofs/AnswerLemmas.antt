@@ -18,7 +18,7 @@ use Rattle.words_reading.proofs.WordsLemmas.{frames_stay, halted_so, limit_so, n
 use Rattle.cue_list_commands.specs.Reads.{ReadsList}
 use Rattle.cue_types.specs.Listing.{Listing}
 use Rattle.command_base.specs.SideEnds.{side_ends}
-use Rattle.services_files.specs.CaptionChannel.{caption_channel}
+use Rattle.cc_receiver.specs.CaptionChannel.{caption_channel}
 use Rattle.words_files.specs.Offences.{FirstOffendingWord, IsFileUnder}
 use Rattle.words_reading.proofs.KnownLemmas.{file_of, known_whole}
 use Rattle.words_reading.proofs.UnderwayLemmas.{nothing_put}

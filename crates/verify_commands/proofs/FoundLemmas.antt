@@ -26,7 +26,7 @@ last_by one other a b is (before_it item more left longer rest) =
     let front = length-append one (item ∷ []) in
     absurd (omega arith)
 
-last_once : (one other : List Frame) (a b : Frame) → one ++ a ∷ [] ≡ other ++ b ∷ [] → a ≡ b
+pub last_once : (one other : List Frame) (a b : Frame) → one ++ a ∷ [] ≡ other ++ b ∷ [] → a ≡ b
 last_once one other a b is = last_by one other a b is (two_fronts one (a ∷ []) other [] b (is ∙ sym (append-nil (other ++ b ∷ []))))
 
 expected_once : (earlier : List Frame) (last : Frame) (a b c d : ℕ) → Jumps earlier last a b → Jumps earlier last c d → a ≡ c
@@ -34,7 +34,7 @@ expected_once earlier last a b c d one other =
     one.expected_is ∙ ap (λ (f : Frame). (f.counter + 1) % 65536) (last_once one.before other.before one.former other.former (sym one.came ∙ other.came)) ∙ sym other.expected_is
 
 -- the numbers of channels
-within : (chan : Chan) → (1 ≤ channel_number chan) × (channel_number chan ≤ 4)
+pub within : (chan : Chan) → (1 ≤ channel_number chan) × (channel_number chan ≤ 4)
 within Cc1 = (omega arith, omega arith)
 within Cc2 = (omega arith, omega arith)
 within Cc3 = (omega arith, omega arith)

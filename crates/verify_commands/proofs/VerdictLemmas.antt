@@ -1,5 +1,5 @@
 -- Of its side file and its input `verify` makes one status.
-use Rattle.std.proofs.Common.{◌≡◌, ◌<◌, ◌++◌, ◌∷◌, ap, append_assoc, inl, inr, length, refl, subst, sym, ◌∙◌, ℕ, List, []}
+use Rattle.std.proofs.Common.{◌≡◌, ◌<◌, ◌++◌, ◌∷◌, ap, append_assoc, inl, inr, refl, subst, sym, ◌∙◌, ℕ, List, []}
 use Rattle.cc_verifier.specs.Findings.{AreClean}
 use Rattle.cdp_packets.specs.Packets.{Frame}
 use Rattle.command_base.proofs.OneLemmas.{beside_one}

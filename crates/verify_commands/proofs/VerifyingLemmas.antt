@@ -16,7 +16,7 @@ use Rattle.cc_verifier.specs.declared.verifier.Verifier.{Verifier}
 use Rattle.cdp_packets.specs.Packets.{Frame}
 use Rattle.cue_types.specs.Listing.{Listing}
 use Rattle.findings.specs.declared.finding.Finding.{Finding}
-use Rattle.services_files.specs.CaptionChannel.{caption_channel}
+use Rattle.cc_receiver.specs.CaptionChannel.{caption_channel}
 use Rattle.words_files.proofs.FramesOfLemmas.{frames_of_once}
 use Rattle.words_files.proofs.FrontLemmas.{TwoFronts, before_it, behind_it, same, two_fronts}
 use Rattle.words_reading.proofs.PieceLemmas.{cut_short, front_size, front_spelled}

@@ -1,13 +1,13 @@
 -- Between crates: the program's answer stands on none of these definitions.
 -- Words that are verified.
-use Rattle.std.specs.Prelude.{◌≡◌, ◌≤◌, ℕ, List, [], length, None}
+use Rattle.std.specs.Prelude.{◌≡◌, ◌≤◌, ℕ, List, length, None}
 use Rattle.cc_verifier.specs.Verifiers.{HasVerified, finding_of, list_of, verified_frames}
 use Rattle.cc_verifier.specs.declared.verifier.Verifier.{Verifier}
 use Rattle.command_base.specs.declared.status.Status.{Status}
 use Rattle.command_base.specs.declared.status.Status.TheVariants as status
 use Rattle.cue_types.specs.Listing.{Listing}
 use Rattle.words_files.specs.Offences.{IsUnoffending}
-use Rattle.services_files.specs.CaptionChannel.{caption_channel}
+use Rattle.cc_receiver.specs.CaptionChannel.{caption_channel}
 use Rattle.verify_commands.specs.VerifyVerdict.{FindsNothing}
 use Rattle.verify_commands.specs.declared.verifying.Found.{Found}
 use Rattle.verify_commands.specs.declared.verifying.Verifying.{Verifying}
