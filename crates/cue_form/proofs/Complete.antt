@@ -1,7 +1,7 @@
 -- Records that spell a cue list are read as that list.
-use Rattle.std.proofs.Common.{◌≡◌, ◌≢◌, ℕ, zero, suc, ◌+◌, ◌-◌, ◌<◌, ◌≤◌, ◌==◌, Bool, true, false, nat_lt, List, [], ◌∷◌, ◌++◌, map, length, get_or, All, encode_utf8_all, IsUtf8, Option, Some, None, option_to_list, Ok, arith, refl, sym, ap, subst, ◌∙◌, append_assoc, length-append, eq-eqb, le-leb, lt-ltb, ne_eqb}
+use Rattle.std.proofs.Common.{◌≡◌, ◌≢◌, ℕ, zero, suc, ◌+◌, ◌-◌, ◌<◌, ◌≤◌, ◌==◌, Bool, true, false, nat_lt, List, [], ◌∷◌, ◌++◌, map, length, get_or, All, encode_utf8_all, IsUtf8, Option, Some, None, option_to_list, Ok, arith, refl, sym, ap, subst, ◌∙◌, append_assoc, length-append, eq-eqb, le-leb, lt-ltb, ne_eqb, if◌then◌else◌}
 use Rattle.std.specs.List.{flat_map, list_all, list_any}
-use Rattle.std.specs.Prelude.{decimal, IfSome, option_map}
+use Rattle.std.specs.Prelude.{decimal, IfSome, option_map, option_to_list}
 use Rattle.std.specs.Str.{all_scalars}
 use Rattle.std.proofs.lemmas.Fmt.{decimal_digit}
 use Rattle.std.proofs.lemmas.List.{append-nil}
@@ -19,7 +19,7 @@ use Rattle.cue_form.specs.Fields.{fill_field, is_two_bits, named, number_within,
 use Rattle.cue_form.specs.Form.{cue_columns, first_row, is_coded, is_second, is_window, last_is_plain, last_row, run_pen_field, suits_row, version_words}
 use Rattle.cue_form.specs.Reading.{attributes_of, colours_of, next, read_from, run_of, spelled_list}
 use Rattle.cue_form.specs.Records.{Record}
-use Rattle.cue_form.specs.Spelling.{SpellsList, attribute_record, attribute_records, colour_record, colour_records, cue_record, cue_records, fill_word, head_record, pen_word, rgb_word, run_record, run_records, share_record, version_word, window_attribute_records, wrap_number}
+use Rattle.cue_form.specs.Spelling.{SpellsList, attribute_record, attribute_records, colour_record, cue_record, cue_records, fill_word, head_record, pen_word, rgb_word, run_record, run_records, share_record, version_word}
 use Rattle.cue_types.specs.Coloured.{coloured}
 use Rattle.cue_types.specs.Cues.{IsCueFormed, IsOfKind}
 use Rattle.cue_types.specs.Line21Cues.{IsLine21Pen, IsLine21Run, base_row}
@@ -153,11 +153,11 @@ run_read k runs run at suits =
       le-leb (run.col + length run.text) (cue_columns k) at.fits,
     ) refl
 
-line21_pen_read : (p : Pen) → IsLine21Pen p → option_map (λ style. pen.Line21 style) (pen_field (pen_word p)) ≡ Some p
+pub line21_pen_read : (p : Pen) → IsLine21Pen p → option_map (λ style. pen.Line21 style) (pen_field (pen_word p)) ≡ Some p
 line21_pen_read (pen.Line21 style) formed = rw (pen_field-pen_word style.colour style.italic style.underline formed) refl
 line21_pen_read (pen.Dtv italic underline) formed = absurd formed
 
-window_pen_read : (p : Pen) → IsWindowPen p → named plain_words (pen_word p) ≡ Some p
+pub window_pen_read : (p : Pen) → IsWindowPen p → named plain_words (pen_word p) ≡ Some p
 window_pen_read (pen.Line21 style) formed = absurd formed
 window_pen_read (pen.Dtv false false) formed = refl
 window_pen_read (pen.Dtv true false) formed = refl
@@ -213,14 +213,14 @@ run_step head shares earlier cue run at suits = rw (run_read cue.kind cue.runs r
 digit_read : (d : ℕ) → d < 4 → (decimal d ≡ (48 + d) ∷ []) × (is_two_bits (48 + d) ≡ true) × (48 + d - 48 ≡ d)
 digit_read d small = (decimal_digit d (omega arith), rw (le-leb 48 (48 + d) (omega arith), le-leb (48 + d) 51 (omega arith)) refl, omega arith)
 
-rgb_read : (value : Rgb) → IsRgb value → rgb_field (rgb_word value) ≡ Some value
+pub rgb_read : (value : Rgb) → IsRgb value → rgb_field (rgb_word value) ≡ Some value
 rgb_read value is =
     let (r, r_test, r_back) = digit_read value.r is.r in
     let (g, g_test, g_back) = digit_read value.g is.g in
     let (b, b_test, b_back) = digit_read value.b is.b in
     rw (r, g, b) (rw (r_test, g_test, b_test) (rw (r_back, g_back, b_back) refl))
 
-fill_read : (value : Fill) → IsFill value → fill_field (fill_word value) ≡ Some value
+pub fill_read : (value : Fill) → IsFill value → fill_field (fill_word value) ≡ Some value
 fill_read value is =
     let (o, o_test, o_back) = digit_read value.opacity is.opacity in
     let (r, r_test, r_back) = digit_read value.r is.r in
@@ -231,7 +231,8 @@ fill_read value is =
 colours_read : (colours : PenColors) → IsPenColors colours → colours_of (colour_record colours) ≡ Ok colours
 colours_read colours is = rw (fill_read colours.fg is.fg, fill_read colours.bg is.bg, rgb_read colours.edge is.edge) refl
 
-wrap_read : (wrap : Bool) → (number_within 0 1 (decimal (wrap_number wrap)) ≡ Some (wrap_number wrap)) × ((wrap_number wrap == 1) ≡ wrap)
+wrap_read : (wrap : Bool)
+    → (number_within 0 1 (decimal (if wrap then 1 else 0)) ≡ Some (if wrap then 1 else 0)) × (((if wrap then 1 else 0) == 1) ≡ wrap)
 wrap_read true = (number_within-decimal 0 1 1 (omega arith) (omega arith) (omega arith), refl)
 wrap_read false = (number_within-decimal 0 1 0 (omega arith) (omega arith) (omega arith), refl)
 
@@ -281,7 +282,7 @@ MayColour head k (Some colours) = (head.version ≡ version.Two) × (is_window k
 -- a run of the last cue, with the colours of its own
 run_reads : (head : Head) (shares : List Share) (earlier : List Cue) (cue : Cue) (done : List Run) (run : Run) (colours : Option PenColors) → run.colors ≡ colours
     → IsReadable cue.kind run → suits_row cue.kind done run.row ≡ true → MayColour head cue.kind colours
-    → LeadsTo (with_runs head shares earlier cue done) (run_record run ∷ colour_records colours) (with_runs head shares earlier cue (done ++ run ∷ []))
+    → LeadsTo (with_runs head shares earlier cue done) (run_record run ∷ map colour_record (option_to_list colours)) (with_runs head shares earlier cue (done ++ run ∷ []))
 run_reads head shares earlier cue done run None is at suits own =
     subst (λ (r : Run). LeadsTo (with_runs head shares earlier cue done) (run_record run ∷ []) (with_runs head shares earlier cue (done ++ r ∷ []))) (ap (λ (c : Option PenColors). record run { colors = c }) (sym is))
     (leads_by (with_runs head shares earlier cue done) (with_runs head shares earlier cue (done ++ record run { colors = None } ∷ [])) (run_record run)
@@ -389,7 +390,7 @@ next_cue head shares earlier last cue load show (Some hide) (kind.Win w) runs be
 attributes_lead : (head : Head) (shares : List Share) (earlier : List Cue) (load show : ℕ) (hide : Option ℕ) (w : WinCue) (attr : Option WinAttr) → IfSome attr AreWindowAttributes
     → (head.version ≡ version.One → attr ≡ None)
     → LeadsTo (begun_of (Some head) shares earlier (Some (record { load = load; show = show; hide = hide; kind = kind.Win (record w { attr = None }); runs = [] })))
-    (window_attribute_records attr)
+    (map attribute_record (option_to_list attr))
     (begun_of (Some head) shares earlier (Some (record { load = load; show = show; hide = hide; kind = kind.Win (record w { attr = attr }); runs = [] })))
 attributes_lead head shares earlier load show hide w None formed plain = leads_nowhere _
 attributes_lead head shares earlier load show hide w (Some attributes) formed plain =

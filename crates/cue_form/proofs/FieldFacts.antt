@@ -21,7 +21,7 @@ abbrev pub listed : ℕ → ℕ → Record → Record
 listed zero from r = []
 listed (suc n) from r = field r from ∷ listed n (suc from) r
 
-drop_field : (r : Record) (from : ℕ) → from < length r → drop from r ≡ field r from ∷ drop (suc from) r
+pub drop_field : (r : Record) (from : ℕ) → from < length r → drop from r ≡ field r from ∷ drop (suc from) r
 drop_field [] from within = absurd (omega arith)
 drop_field (f ∷ fs) zero within = refl
 drop_field (f ∷ fs) (suc from) within = drop_field fs from (omega arith)

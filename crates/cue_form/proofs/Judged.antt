@@ -1,5 +1,5 @@
 -- A record is refused exactly at the first of its judgements that isn't good.
-use Rattle.std.proofs.Common.{◌≡◌, ℕ, ◌+◌, List, [], ◌∷◌, ◌++◌, length, Option, Some, None, Err, refl, sym, ◌∙◌, append_assoc, length-append, arith, inl, inr}
+use Rattle.std.proofs.Common.{◌≡◌, ℕ, ◌+◌, List, [], ◌∷◌, ◌++◌, length, Option, Some, None, Err, refl, sym, ◌∙◌, append_assoc, length-append, arith, inl, inr, ap}
 use Rattle.std.proofs.lemmas.List.{append-nil}
 use Rattle.cc_base.specs.declared.why.Why.TheVariants as why
 use Rattle.cue_form.specs.Begun.{Begun, awaits_run, nothing}
@@ -15,7 +15,9 @@ use Rattle.cue_types.specs.declared.head.Head.{Head}
 use Rattle.cue_form.specs.declared.record_kind.RecordKind.{RecordKind}
 use Rattle.cue_form.specs.declared.record_kind.RecordKind.TheVariants as record_kind
 use Rattle.cue_form.proofs.Goodness.{behind, carried, judged_offence, offence_of}
+use Rattle.cue_form.proofs.Offended.{offends_told}
 use Rattle.cue_form.proofs.Passing.{on_part, on_test, on_value}
+use Rattle.cue_form.proofs.StandingTold.{awaits_told}
 use Rattle.cue_form.proofs.Spelled.{Read, read_more, read_nothing}
 
 runs_judged : (b : Begun) (last : Option Cue) (r : Record) → offence_of (runs_on b last r) ≡ first_offence (last_judgements last r)
@@ -47,12 +49,12 @@ length-more before r number e = rw length-append (omega arith)
 -- a list that ended too early
 ended_early : (before : List Record) (b : Begun) (head : Option Head) (number : ℕ) (f : CueFault) → Read before b → b.head ≡ head → number ≡ length before + 1 → list_ended b head number ≡ Err f → RecordsEndEarly before f
 ended_early before b None number f so_far headed place taken =
-    record { begun = b; begins = so_far.begins; lacks = inl headed; place = rw (← place) (let same : malformed.Malformed number 1 why.Field ≡ f = cc in sym same) }
+    record { begun = b; are = so_far.begins.0; begins = so_far.begins.1; lacks = inl headed; place = rw (← place) (let same : malformed.Malformed number 1 why.Field ≡ f = cc in sym same) }
 ended_early before b (Some head) number f so_far headed place taken =
     on_test _ (awaits_run b.last)
     (λ full. let q = rw full at taken in cc)
     (λ awaits. let t1 = rw awaits at taken in
-    record { begun = b; begins = so_far.begins; lacks = inr awaits; place = rw (← place) (let same : malformed.Malformed number 1 why.Field ≡ f = cc in sym same) })
+    record { begun = b; are = so_far.begins.0; begins = so_far.begins.1; lacks = inr ((awaits_told b.last).0 awaits); place = rw (← place) (let same : malformed.Malformed number 1 why.Field ≡ f = cc in sym same) })
 
 pub fault_from : (before rs : List Record) (b : Begun) (number : ℕ) (f : CueFault) → Read before b → number ≡ length before + 1 → read_from b number rs ≡ Err f → IsFirstFault (before ++ rs) f
 fault_from before [] b number f so_far place taken = rw append-nil (inr (ended_early before b b.head number f so_far refl place taken))
@@ -62,15 +64,14 @@ fault_from before (r ∷ rs) b number f so_far place taken =
     let t1 = rw refused at taken in
     let same : in_record number offence ≡ f = cc in
     inl (record {
-      before = before;
+      begun = b;
       offender = r;
       after = rs;
-      begun = b;
       offence = offence;
-      split = refl;
-      begins = so_far.begins;
-      offends = sym (next_judged b r) ∙ rw refused refl;
-      place = rw (← place) (sym same);
+      split = ap (λ (l : List Record). l ++ r ∷ rs) so_far.begins.0;
+      begins = so_far.begins.1;
+      offends = offends_told b r so_far.begins.1 offence (sym (next_judged b r) ∙ rw refused refl);
+      place = sym same ∙ ap (λ (n : ℕ). in_record n offence) (place ∙ ap (λ (l : List Record). length l + 1) so_far.begins.0);
     }))
     (λ more is_more.
     let t1 = rw is_more at taken in

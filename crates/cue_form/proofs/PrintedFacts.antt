@@ -1,5 +1,6 @@
 -- The bytes of a printed list are read back as the records that spell it.
 use Rattle.std.proofs.Common.{◌≡◌, ℕ, zero, suc, ◌+◌, ◌≤◌, List, [], ◌∷◌, ◌++◌, map, length, codes, Option, Some, None, Ok, refl, ap, ◌∙◌, arith, length-append}
+use Rattle.std.specs.Prelude.{option_to_list}
 use Rattle.std.specs.List.{flat_map}
 use Rattle.std.proofs.lemmas.List.{map-append}
 use Rattle.csv.specs.Machine.{next_record}
@@ -13,7 +14,7 @@ use Rattle.cue_types.specs.Listing.{IsFormed, Listing}
 use Rattle.cue_form.specs.Printing.{flexible_writer, in_order, list_bytes, record_bytes}
 use Rattle.cue_form.specs.Reading.{read_list, spelled_list}
 use Rattle.cue_form.specs.Records.{Field, Record, records_of}
-use Rattle.cue_form.specs.Spelling.{attribute_records, colour_records, cue_record, cue_records, list_records, run_record, run_records, share_record, window_attribute_records}
+use Rattle.cue_form.specs.Spelling.{attribute_record, attribute_records, colour_record, cue_record, cue_records, list_records, run_record, run_records, share_record}
 use Rattle.cue_types.specs.declared.cue.Cue.{Cue}
 use Rattle.cue_types.specs.declared.cue.Kind.{Kind}
 use Rattle.cue_types.specs.declared.cue.Kind.TheVariants as kind
@@ -76,7 +77,7 @@ shares_kept : (shares : List Share) → map read_back (map share_record shares) 
 shares_kept [] = refl
 shares_kept (share ∷ shares) = ap (λ rs. share_record share ∷ rs) (shares_kept shares)
 
-run_kept : (run : Run) (colours : Option PenColors) → map read_back (run_record run ∷ colour_records colours) ≡ run_record run ∷ colour_records colours
+run_kept : (run : Run) (colours : Option PenColors) → map read_back (run_record run ∷ map colour_record (option_to_list colours)) ≡ run_record run ∷ map colour_record (option_to_list colours)
 run_kept run None = refl
 run_kept run (Some colours) = refl
 
@@ -93,7 +94,7 @@ cue_kept (kind.Paint channel) cue = refl
 cue_kept (kind.Roll channel rows) cue = refl
 cue_kept (kind.Win window) cue = refl
 
-own_kept : (attr : Option WinAttr) → map read_back (window_attribute_records attr) ≡ window_attribute_records attr
+own_kept : (attr : Option WinAttr) → map read_back (map attribute_record (option_to_list attr)) ≡ map attribute_record (option_to_list attr)
 own_kept None = refl
 own_kept (Some attributes) = refl
 

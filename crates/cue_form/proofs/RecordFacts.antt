@@ -1,5 +1,5 @@
 -- Records that were read: what they have, and that they are the records that spell it.
-use Rattle.std.proofs.Common.{◌≡◌, ◌+◌, ◌-◌, ◌<◌, ◌≤◌, ◌==◌, ◌^◌, ◌&&◌, Bool, true, false, not, nat_le, List, [], ◌∷◌, length, chars, ℕ, zero, suc, codes, All, IsSome, Option, Some, None, Ok, refl, sym, ap, subst, ◌∙◌, arith, eqb-true, leb-true}
+use Rattle.std.proofs.Common.{◌≡◌, ◌+◌, ◌-◌, ◌<◌, ◌≤◌, ◌==◌, ◌^◌, ◌&&◌, Bool, true, false, not, nat_le, List, [], ◌∷◌, length, chars, ℕ, zero, suc, codes, All, IsSome, Option, Some, None, Ok, refl, sym, ap, subst, ◌∙◌, arith, eqb-true, leb-true, if◌then◌else◌}
 use Rattle.std.specs.Prelude.{decimal, is_some, option_map, unwrap_or}
 use Rattle.line21_codes.specs.Spellings.{spelling_of}
 use Rattle.dtvcc_codes.specs.CharacterSpellings.{dtvcc_spelling as dtv_spelling_of}
@@ -26,7 +26,7 @@ use Rattle.cue_form.specs.Form.{cue_columns, first_row, frame_or_none_field, is_
 use Rattle.cue_form.specs.Judgements.{attribute_judgements, colour_judgements, head_judgements, rolled_judgements, run_judgements, share_judgements, shown_judgements, window_judgements}
 use Rattle.cue_form.specs.Reading.{attributes_of, colours_of, cue_of, head_of, number, record_fill, rgb, rolled_cue_of, run_of, share_record_of, shown_cue_of, window_cue_of}
 use Rattle.cue_form.specs.Records.{Field, Record, field}
-use Rattle.cue_form.specs.Spelling.{attribute_record, colour_record, cue_record, fill_word, head_record, hide_word, pen_word, rgb_word, run_record, share_record, wrap_number}
+use Rattle.cue_form.specs.Spelling.{attribute_record, colour_record, cue_record, fill_word, head_record, hide_word, pen_word, rgb_word, run_record, share_record}
 use Rattle.cue_types.specs.declared.cue.Cue.{Cue}
 use Rattle.cue_types.specs.declared.cue.Kind.{Kind}
 use Rattle.cue_types.specs.declared.cue.Kind.TheVariants as kind
@@ -201,7 +201,7 @@ paint_passed r cue e =
     })
 
 -- a HIDE that may be empty
-frame_or_none_passed : (text : Field) (hide : Option ℕ) → frame_or_none_field text ≡ Some hide → (text ≡ hide_word hide) × IsFrameOrNone hide
+pub frame_or_none_passed : (text : Field) (hide : Option ℕ) → frame_or_none_field text ≡ Some hide → (text ≡ hide_word hide) × IsFrameOrNone hide
 frame_or_none_passed text hide e = on_test _ (length text == 0)
     (λ more. let e1 = rw more at e in
     with_value _ (frame_field text) (λ failed. let q = rw failed at e1 in cc) (λ frame is.
@@ -318,7 +318,7 @@ pub record AttributesPassed (r : Record) (attributes : WinAttr) : Type 0 where
   pub spelled : field r 0 ≡ codes "attr" → r ≡ attribute_record attributes
 
 -- the word of a wrap
-wrap_is : (n : ℕ) → n ≤ 1 → n ≡ wrap_number (n == 1)
+wrap_is : (n : ℕ) → n ≤ 1 → n ≡ (if n == 1 then 1 else 0)
 wrap_is zero small = refl
 wrap_is (suc zero) small = refl
 wrap_is (suc (suc n)) small = absurd (omega arith)
@@ -341,7 +341,7 @@ attributes_passed r attributes e =
     let g9 = g7.1.1 in
     let border_kind = number_good 0 5 (field r 9) g9.0 in
     let border = rgb_good r 10 g9.1.0 in
-    let wraps : field r 4 ≡ decimal (wrap_number (number r 4 0 1 == 1)) = wrap.0 ∙ ap decimal (wrap_is (number r 4 0 1) wrap.2) in
+    let wraps : field r 4 ≡ decimal (if number r 4 0 1 == 1 then 1 else 0) = wrap.0 ∙ ap decimal (wrap_is (number r 4 0 1) wrap.2) in
     let all : r ≡ field r 0 ∷ field r 1 ∷ field r 2 ∷ field r 3 ∷ field r 4 ∷ field r 5 ∷ field r 6 ∷ field r 7 ∷ field r 8 ∷ field r 9 ∷ field r 10 ∷ [] = fields_listed 11 r good.0 in
     subst (AttributesPassed r) same (record {
       formed = record {
@@ -439,7 +439,7 @@ run_parts P k runs r run e rest =
     }) (rw (is_row, is_col, is_pen) at same))))
 
 -- a run of line 21
-line21_pen : (text : Field) (p : Pen) → option_map (λ style. pen.Line21 style) (pen_field text) ≡ Some p → IsLine21Pen p × (text ≡ pen_word p)
+pub line21_pen : (text : Field) (p : Pen) → option_map (λ style. pen.Line21 style) (pen_field text) ≡ Some p → IsLine21Pen p × (text ≡ pen_word p)
 line21_pen text p e =
     with_value _ (pen_field text) (λ none. let q = rw none at e in cc) (λ style is.
     let e1 = rw is at e in
@@ -447,19 +447,19 @@ line21_pen text p e =
     rw (← same) (pen_passed text style is))
 
 -- the characters that have a code
-coded_pop : (channel : Chan) (ch : ℕ) → is_coded (kind.Pop channel) ch ≡ true → IsSome (spelling_of ch)
+pub coded_pop : (channel : Chan) (ch : ℕ) → is_coded (kind.Pop channel) ch ≡ true → IsSome (spelling_of ch)
 unfolding is_coded
 coded_pop channel ch e = e
 
-coded_paint : (channel : Chan) (ch : ℕ) → is_coded (kind.Paint channel) ch ≡ true → IsSome (spelling_of ch)
+pub coded_paint : (channel : Chan) (ch : ℕ) → is_coded (kind.Paint channel) ch ≡ true → IsSome (spelling_of ch)
 unfolding is_coded
 coded_paint channel ch e = e
 
-coded_roll : (channel : Chan) (rows ch : ℕ) → is_coded (kind.Roll channel rows) ch ≡ true → IsSome (spelling_of ch)
+pub coded_roll : (channel : Chan) (rows ch : ℕ) → is_coded (kind.Roll channel rows) ch ≡ true → IsSome (spelling_of ch)
 unfolding is_coded
 coded_roll channel rows ch e = e
 
-coded_window : (window : WinCue) (ch : ℕ) → is_coded (kind.Win window) ch ≡ true → IsSome (dtv_spelling_of ch)
+pub coded_window : (window : WinCue) (ch : ℕ) → is_coded (kind.Win window) ch ≡ true → IsSome (dtv_spelling_of ch)
 unfolding is_coded
 coded_window window ch e = e
 

@@ -1,19 +1,19 @@
 -- A list that was read: its records spell it.
 use Rattle.std.proofs.Common.{◌≡◌, ℕ, ◌+◌, is_none, List, [], ◌∷◌, ◌++◌, map, true, false, Option, Some, None, Ok, refl, sym, ap, ◌∙◌, append_assoc}
 use Rattle.std.specs.List.{flat_map}
-use Rattle.std.specs.Prelude.{is_some}
+use Rattle.std.specs.Prelude.{is_some, MatchOption, option_to_list}
 use Rattle.std.proofs.lemmas.Grind.{flat_map-append}
 use Rattle.std.proofs.lemmas.List.{append-nil, map-append}
 use Rattle.dtvcc_codes.specs.declared.pens.PenColors.{PenColors}
 use Rattle.dtvcc_codes.specs.declared.windows.WinAttr.{WinAttr}
-use Rattle.cue_form.specs.Begun.{Begun, IsBegun, IsCueBegun, IsLastOrNone, IsPlainKind, awaits_run, cue_with_attributes, cue_with_colours, cue_with_run, cues_of, kind_with_attributes, no_runs, nothing, with_cue}
+use Rattle.cue_form.specs.Begun.{Begun, IsBegun, IsCueBegun, IsPlainKind, awaits_run, cue_with_attributes, cue_with_colours, cue_with_run, cues_of, kind_with_attributes, no_runs, nothing, with_cue}
 use Rattle.cue_types.specs.Coloured.{coloured}
 use Rattle.cue_types.specs.Listing.{Listing}
 use Rattle.cue_form.specs.Form.{awaits_attributes, awaits_colours, is_bare_window, is_second, is_window, last_is_plain, may_stand, record_kind_of}
 use Rattle.cue_form.specs.Judgements.{room_at}
 use Rattle.cue_form.specs.Reading.{adds, attributes_of, colours_of, head_of, next, opens, read_from, run_of, share_record_of, spelled_list}
 use Rattle.cue_form.specs.Records.{Record, field}
-use Rattle.cue_form.specs.Spelling.{BeginsList, SpellsList, attribute_record, attribute_records, begun_records, colour_record, cue_record, cue_records, head_record, head_records, run_record, run_records, share_record}
+use Rattle.cue_form.specs.Spelling.{SpellsList, attribute_record, attribute_records, begun_records, colour_record, cue_record, cue_records, head_record, run_record, run_records, share_record}
 use Rattle.cue_types.specs.declared.cue.Cue.{Cue}
 use Rattle.cue_types.specs.declared.cue.Kind.{Kind}
 use Rattle.cue_types.specs.declared.cue.Kind.TheVariants as kind
@@ -33,13 +33,13 @@ flat_more f xs x h s = rw (flat_map-append f xs (x ∷ []), append-nil (f x)) (s
 
 -- a cue more
 begun_records-with_cue : (b : Begun) (cue : Cue) → begun_records (with_cue b cue) ≡ begun_records b ++ cue_records cue
-begun_records-with_cue b cue = flat_more cue_records (cues_of b) cue (head_records b.head) (map share_record b.shares)
+begun_records-with_cue b cue = flat_more cue_records (cues_of b) cue (map head_record (option_to_list b.head)) (map share_record b.shares)
 
 -- the last cue with a record more
 begun_records-with_last : (b : Begun) (cue more : Cue) (r : Record) → b.last ≡ Some cue → cue_records more ≡ cue_records cue ++ r ∷ []
     → begun_records (record b { last = Some more }) ≡ begun_records b ++ r ∷ []
 begun_records-with_last b cue more r last grown =
-    let h = head_records b.head in
+    let h = map head_record (option_to_list b.head) in
     let s = map share_record b.shares in
     let old : begun_records b ≡ (h ++ (s ++ flat_map cue_records b.earlier)) ++ cue_records cue = rw last (flat_more cue_records b.earlier cue h s) in
     let new = flat_more cue_records b.earlier more h s in
@@ -104,13 +104,13 @@ attributes_behind (kind.Win window) cue attributes bare none = rw (none, none_is
     none_is (Some a) e = cc
 
 -- a share more, before the first cue
-no_cues_of : (b : Begun) (last : Option Cue) → b.last ≡ last → is_none last ≡ true → IsLastOrNone b.earlier last → cues_of b ≡ []
+no_cues_of : (b : Begun) (last : Option Cue) → b.last ≡ last → is_none last ≡ true → MatchOption last (b.earlier ≡ []) IsCueBegun → cues_of b ≡ []
 no_cues_of b None is none begun = rw (is, begun) refl
 no_cues_of b (Some cue) is none begun = cc
 
 begun_records-with_share : (b : Begun) (share : Share) → cues_of b ≡ [] → begun_records (record b { shares = b.shares ++ share ∷ [] }) ≡ begun_records b ++ share_record share ∷ []
 begun_records-with_share b share none =
-    let h = head_records b.head in
+    let h = map head_record (option_to_list b.head) in
     let s = map share_record b.shares in
     let more : map share_record (b.shares ++ share ∷ []) ≡ s ++ share_record share ∷ [] = map-append share_record b.shares (share ∷ []) in
     rw (none, more) (ap (λ (rs : List Record). h ++ rs) (append-nil (s ++ share_record share ∷ []))
@@ -193,7 +193,7 @@ next_steps b more r begun taken = next_passed _ b more r taken (λ k is_kind may
 
 -- what the records so far are known to be
 pub record Read (before : List Record) (b : Begun) : Type 0 where
-  pub begins : BeginsList before b
+  pub begins : (before ≡ begun_records b) × IsBegun b
 
 pub read_more : (before : List Record) (b more : Begun) (r : Record) → Read before b → next b r ≡ Ok more → Read (before ++ r ∷ []) more
 read_more before b more r so_far taken =

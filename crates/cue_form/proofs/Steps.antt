@@ -1,5 +1,6 @@
 -- From record to record: what a begun list keeps.
 use Rattle.std.proofs.Common.{◌≡◌, ◌≢◌, ℕ, ◌+◌, ◌≤◌, ◌==◌, ◌&&◌, ◌||◌, not, nat_lt, nat_le, if◌then◌else◌, is_some, is_none, Bool, List, [], ◌∷◌, ◌++◌, true, false, length, All, Option, Some, None, option_to_list, Ok, arith, refl, sym, ap, ◌∙◌, subst, length-append, ltb-true, leb-true, eqb-true, eq-eqb}
+use Rattle.std.specs.Prelude.{MatchOption}
 use Rattle.std.specs.List.{list_any}
 use Rattle.std.proofs.lemmas.List.Sums.{sum_by_push}
 use Rattle.std.proofs.lemmas.List.{append-nil}
@@ -9,7 +10,7 @@ use Rattle.cc_base.specs.declared.rate.Rate.{Rate}
 use Rattle.dtvcc_codes.specs.declared.pens.PenColors.{PenColors}
 use Rattle.dtvcc_codes.specs.declared.windows.WinAttr.{WinAttr}
 use Rattle.dtvcc_codes.specs.Spellable.{IsPenColors}
-use Rattle.cue_form.specs.Begun.{AreOfVersion, Begun, IsBegun, IsCueBegun, IsHeaded, IsHeadOrNothing, IsLastOrNone, IsPlain, awaits_run, cue_with_attributes, cue_with_colours, cue_with_run, cues_of, kind_with_attributes, no_runs, nothing, with_cue}
+use Rattle.cue_form.specs.Begun.{AreOfVersion, Begun, IsBegun, IsCueBegun, IsHeaded, IsPlain, awaits_run, cue_with_attributes, cue_with_colours, cue_with_run, cues_of, kind_with_attributes, no_runs, nothing, with_cue}
 use Rattle.cue_types.specs.Coloured.{coloured}
 use Rattle.cue_types.specs.Cues.{IsCueFormed, IsOfKind}
 use Rattle.cue_types.specs.Line21Cues.{IsLine21Run, IsRolled, base_row}
@@ -52,7 +53,7 @@ IsCueFormed-begun : (cue : Cue) → IsCueBegun cue → no_runs cue.runs ≡ fals
 IsCueFormed-begun cue begun e = record { load = begun.load; show = begun.show; hide = begun.hide; some = some_runs cue.runs e; kind = begun.kind }
 
 -- all cues of a list whose last has a run
-formed_with_last : (earlier : List Cue) (last : Option Cue) → All IsCueFormed earlier → IsLastOrNone earlier last → awaits_run last ≡ false → All IsCueFormed (earlier ++ option_to_list last)
+formed_with_last : (earlier : List Cue) (last : Option Cue) → All IsCueFormed earlier → MatchOption last (earlier ≡ []) IsCueBegun → awaits_run last ≡ false → All IsCueFormed (earlier ++ option_to_list last)
 formed_with_last earlier None formed begun e = rw append-nil formed
 formed_with_last earlier (Some cue) formed begun e = All-push IsCueFormed earlier cue formed (IsCueFormed-begun cue begun e)
 
@@ -61,7 +62,7 @@ all_formed b begun e = formed_with_last b.earlier b.last begun.earlier begun.las
 
 -- what the head of a begun list has
 pub headed : (b : Begun) (head : Head) → IsBegun b → b.head ≡ Some head → IsHeaded b head
-headed b head begun is = subst (IsHeadOrNothing b) is begun.head
+headed b head begun is = subst (λ (h : Option Head). MatchOption h (b ≡ nothing) (IsHeaded b)) is begun.head
 
 -- a begun list that has a head, and a run in its last cue, is a cue list
 pub IsFormed-list_ended : (b : Begun) (head : Head) → IsBegun b → b.head ≡ Some head → awaits_run b.last ≡ false
@@ -72,7 +73,7 @@ IsFormed-list_ended b head begun is full =
 
 -- a head stays, where the shares do and the cues are of its version
 kept_head : (b more : Begun) (head : Option Head) → b.shares ≡ more.shares → is_some head ≡ true
-    → ((h : Head) → head ≡ Some h → AreOfVersion h.version (cues_of b) → AreOfVersion h.version (cues_of more)) → IsHeadOrNothing b head → IsHeadOrNothing more head
+    → ((h : Head) → head ≡ Some h → AreOfVersion h.version (cues_of b) → AreOfVersion h.version (cues_of more)) → MatchOption head (b ≡ nothing) (IsHeaded b) → MatchOption head (more ≡ nothing) (IsHeaded more)
 kept_head b more None same some of_version begun = cc
 kept_head b more (Some head) same some of_version begun =
     record {
@@ -84,7 +85,7 @@ kept_head b more (Some head) same some of_version begun =
     }
 
 -- a list with a cue has a head
-headed_by_last : (b : Begun) (head : Option Head) (cue : Cue) → IsHeadOrNothing b head → b.last ≡ Some cue → is_some head ≡ true
+headed_by_last : (b : Begun) (head : Option Head) (cue : Cue) → MatchOption head (b ≡ nothing) (IsHeaded b) → b.last ≡ Some cue → is_some head ≡ true
 headed_by_last b None cue begun last = let none = ap (λ (b : Begun). b.last) begun in cc
 headed_by_last b (Some head) cue begun last = refl
 
@@ -249,7 +250,7 @@ IsBegun-with_share : (b : Begun) (head : Head) (share : Share) → IsBegun b →
 IsBegun-with_share b head share begun is none formed other fits =
     let at = headed b head begun is in
     record {
-      head = subst (IsHeadOrNothing (record b { shares = b.shares ++ share ∷ [] })) (sym is) (record {
+      head = subst (λ (h : Option Head). let more : Begun = record b { shares = b.shares ++ share ∷ [] } in MatchOption h (more ≡ nothing) (IsHeaded more)) (sym is) (record {
         rate = at.rate;
         some = at.some;
         frames = at.frames;
@@ -262,7 +263,7 @@ IsBegun-with_share b head share begun is none formed other fits =
     }
 
 -- the head comes first
-pub nothing_before : (b : Begun) (head : Option Head) → is_none head ≡ true → IsHeadOrNothing b head → b ≡ nothing
+pub nothing_before : (b : Begun) (head : Option Head) → is_none head ≡ true → MatchOption head (b ≡ nothing) (IsHeaded b) → b ≡ nothing
 nothing_before b None none begun = begun
 nothing_before b (Some head) none begun = cc
 

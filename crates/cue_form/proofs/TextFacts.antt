@@ -49,7 +49,7 @@ pub record TextPassed (k : Kind) (col : ℕ) (bytes : Field) (text : List ℕ) :
   pub spelled : bytes ≡ encode_utf8_all text
 
 -- bytes are no text without a character
-some_character : (bytes : Field) (text : List ℕ) → encode_utf8_all text ≡ bytes → 0 < length bytes → 1 ≤ length text
+pub some_character : (bytes : Field) (text : List ℕ) → encode_utf8_all text ≡ bytes → 0 < length bytes → 1 ≤ length text
 some_character bytes [] e some = absurd (let none : length bytes ≡ 0 = rw (← e) refl in omega arith)
 some_character bytes (ch ∷ chs) e some = omega arith
 

@@ -8,7 +8,7 @@ use Rattle.cue_form.specs.Begun.{AreOfVersion, Begun, IsBegun, IsPlain, awaits_r
 use Rattle.cue_form.specs.FirstFault.{IsFirstFault}
 use Rattle.cue_form.specs.Reading.{list_ended, next, read_from, spelled_list}
 use Rattle.cue_form.specs.Records.{Record}
-use Rattle.cue_form.specs.Spelling.{BeginsList, begun_records, cue_records, head_record, share_record}
+use Rattle.cue_form.specs.Spelling.{begun_records, cue_records, head_record, share_record}
 use Rattle.cue_types.specs.declared.cue.Cue.{Cue}
 use Rattle.cue_form.specs.declared.fault.CueFault.{CueFault}
 use Rattle.cue_types.specs.declared.head.Head.{Head}
@@ -19,6 +19,8 @@ use Rattle.cue_form.specs.declared.offence.Offence.{Offence}
 use Rattle.cue_form.proofs.Complete.{LeadsTo, begun_of, cue_read, cues_read, front_read, leads_nowhere, leads_on}
 use Rattle.cue_form.proofs.Goodness.{offence_of}
 use Rattle.cue_form.proofs.Judged.{next_judged}
+use Rattle.cue_form.proofs.Offended.{offends_back}
+use Rattle.cue_form.proofs.StandingTold.{awaits_told}
 
 -- the cues of a version before the last one, and that one
 version_split : (v : Version) (earlier : List Cue) (cue : Cue) → AreOfVersion v (earlier ++ cue ∷ []) → AreOfVersion v earlier × AreOfVersion v (cue ∷ [])
@@ -64,23 +66,27 @@ lacking b None number awaits = refl
 lacking b (Some head) number awaits = rw awaits refl
 
 -- the records before, and what is read behind them
-after_begun : (before rest : List Record) (b : Begun) → BeginsList before b → spelled_list (before ++ rest) ≡ read_from b (length before + 1) rest
-after_begun before rest b begins =
-    let read = (read_back b begins.1).read 1 rest in
-    let count : 1 + length before ≡ length before + 1 = omega arith in
-    subst (λ (rs : List Record). spelled_list (rs ++ rest) ≡ read_from b (length before + 1) rest) (sym begins.0)
-    (read ∙ ap (λ (n : ℕ). read_from b n rest) (ap (λ (rs : List Record). 1 + length rs) (sym begins.0) ∙ count))
+after_begun : (rest : List Record) (b : Begun) → IsBegun b
+    → spelled_list (begun_records b ++ rest) ≡ read_from b (length (begun_records b) + 1) rest
+after_begun rest b begins =
+    let count : 1 + length (begun_records b) ≡ length (begun_records b) + 1 = omega arith in
+    (read_back b begins).read 1 rest ∙ ap (λ (n : ℕ). read_from b n rest) count
 
 -- records that have a first fault are answered with it
 pub first_fault_read : (rs : List Record) (f : CueFault) → IsFirstFault rs f → spelled_list rs ≡ Err f
 first_fault_read rs f (inl stops) =
-    let read = after_begun stops.before (stops.offender ∷ stops.after) stops.begun stops.begins in
-    let refused = refused_from (next stops.begun stops.offender) stops.offence (next_judged stops.begun stops.offender ∙ stops.offends) in
+    let b = stops.begun in
+    let read = after_begun (stops.offender ∷ stops.after) b stops.begins in
+    let stopped = next_judged b stops.offender ∙ offends_back b stops.offender stops.begins stops.offence stops.offends in
+    let refused = refused_from (next b stops.offender) stops.offence stopped in
     ap spelled_list stops.split ∙ (read ∙ rw (refused, stops.place) refl)
 first_fault_read rs f (inr early) =
-    let read = after_begun rs [] early.begun early.begins in
-    let whole : spelled_list rs ≡ spelled_list (rs ++ []) = ap spelled_list (sym (append-nil rs)) in
+    let b = early.begun in
+    let count : length (begun_records b) ≡ length rs = ap length (sym early.are) in
+    let whole : spelled_list rs ≡ read_from b (length rs + 1) [] =
+    ap spelled_list (early.are ∙ sym (append-nil (begun_records b))) ∙ after_begun [] b early.begins
+    ∙ ap (λ (n : ℕ). read_from b (n + 1) []) count in
     elim early.lacks [
-      | inl none ↦ whole ∙ (read ∙ rw (none, early.place) refl)
-      | inr awaits ↦ whole ∙ (read ∙ (lacking early.begun early.begun.head (length rs + 1) awaits ∙ rw early.place refl))
+      | inl none ↦ whole ∙ rw (none, early.place) refl
+      | inr awaits ↦ whole ∙ (lacking b b.head (length rs + 1) ((awaits_told b.last).1 awaits) ∙ rw early.place refl)
     ]

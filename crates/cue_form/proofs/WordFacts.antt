@@ -15,13 +15,13 @@ use Rattle.cue_types.specs.Line21Cues.{IsAuthoredChannel, IsLine21Pen}
 use Rattle.cue_types.specs.Listing.{IsListRate}
 use Rattle.cue_form.specs.Records.{Field}
 use Rattle.cue_form.specs.Spelling.{pen_word, rate_word, version_word}
+pub use Rattle.cue_form.specs.FieldForms.{kind_word}
 use Rattle.cue_form.specs.Form.{kind_words, record_kind_of, version_words}
 use Rattle.cue_types.specs.Windows.{IsWindowPen}
 use Rattle.cue_types.specs.declared.cue.Pen.{Pen}
 use Rattle.cue_types.specs.declared.cue.Pen.TheVariants as pen
 use Rattle.cue_types.specs.declared.head.Version.{Version}
 use Rattle.cue_form.specs.declared.record_kind.RecordKind.{RecordKind}
-use Rattle.cue_form.specs.declared.record_kind.RecordKind.TheVariants as record_kind
 use Rattle.cue_form.proofs.Passing.{with_value}
 
 -- a field that passed the test for a word is the word
@@ -105,18 +105,6 @@ pen_passed text style e = elim (cases_Bool (bytes_eq (drop (length text - 2) tex
       let plain = plain_pen_passed false text style (rw other at e) in
       (plain.white, plain.word ∙ rw plain.underlined (sym (append-nil (plain_word style.colour style.italic))))
 ]
-
--- the word of a kind of record
-abbrev pub kind_word : RecordKind → Field
-kind_word record_kind.Ccsuite = codes "ccsuite"
-kind_word record_kind.Share = codes "share"
-kind_word record_kind.Pop = codes "pop"
-kind_word record_kind.Paint = codes "paint"
-kind_word record_kind.Roll = codes "roll"
-kind_word record_kind.Win = codes "win"
-kind_word record_kind.Attr = codes "attr"
-kind_word record_kind.Run = codes "run"
-kind_word record_kind.Colour = codes "colour"
 
 -- a kind of record
 pub kind_passed : (text : Field) (k : RecordKind) → record_kind_of text ≡ Some k → text ≡ kind_word k

@@ -1,6 +1,6 @@
 -- Believed in part: the program's answer stands on some of these definitions.
 -- A cue list that is begun: what its first records spell. Further runs belong to its last cue.
-use Rattle.std.specs.Prelude.{◌≡◌, ⊤, ◌<◌, ◌≤◌, ◌^◌, Bool, true, false, List, [], ◌∷◌, ◌++◌, length, All, Option, Some, None, option_to_list}
+use Rattle.std.specs.Prelude.{◌≡◌, ⊤, ◌<◌, ◌≤◌, ◌^◌, Bool, true, false, List, [], ◌∷◌, ◌++◌, length, All, MatchOption, Option, Some, None, option_to_list}
 use Rattle.cue_types.specs.Coloured.{coloured}
 use Rattle.cue_types.specs.Cues.{IsOfKind, IsFrameOrNone, IsCueFormed}
 use Rattle.cue_types.specs.Listing.{IsListRate, most_cues, most_frames}
@@ -86,7 +86,7 @@ abbrev pub AreOfVersion : Version → List Cue → Type 0
 AreOfVersion version.One cues = All IsPlain cues
 AreOfVersion version.Two cues = ⊤
 
--- a head in its ranges, and shares within its room; a list without a head has nothing else
+-- a head in its ranges, and shares within its room
 pub record IsHeaded (b : Begun) (head : Head) : Type 0 where
   pub rate : IsListRate head.rate
   pub some : 1 ≤ head.frames
@@ -94,18 +94,9 @@ pub record IsHeaded (b : Begun) (head : Head) : Type 0 where
   pub shares : AreShares head.rate b.shares
   pub version : AreOfVersion head.version (cues_of b)
 
-abbrev pub IsHeadOrNothing : Begun → Option Head → Type 0
-IsHeadOrNothing b None = b ≡ nothing
-IsHeadOrNothing b (Some head) = IsHeaded b head
-
--- a last cue in its ranges; a list without one has no other
-abbrev pub IsLastOrNone : List Cue → Option Cue → Type 0
-IsLastOrNone earlier None = earlier ≡ []
-IsLastOrNone earlier (Some cue) = IsCueBegun cue
-
--- what holds of every begun list
+-- what holds of every begun list: without a head there is nothing, and without a last cue no other
 pub record IsBegun (b : Begun) : Type 0 where
-  pub head : IsHeadOrNothing b b.head
+  pub head : MatchOption b.head (b ≡ nothing) (IsHeaded b)
   pub earlier : All IsCueFormed b.earlier
-  pub last : IsLastOrNone b.earlier b.last
+  pub last : MatchOption b.last (b.earlier ≡ []) IsCueBegun
   pub few : length (cues_of b) ≤ most_cues

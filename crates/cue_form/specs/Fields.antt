@@ -1,4 +1,4 @@
--- Believed: the program's answer stands on these definitions.
+-- Believed in part: the program's answer stands on some of these definitions.
 -- The values of fields: numbers, rates, channels and pens.
 use Rattle.std.specs.Prelude.{ℕ, ◌-◌, Bool, true, false, ◌&&◌, nat_le, if◌then◌else◌, List, [], ◌∷◌, length, take, drop, codes, bytes_eq, Option, Some, None, option_map}
 use Rattle.cc_base.specs.declared.rate.Rate.{Rate}

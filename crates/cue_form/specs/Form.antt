@@ -1,4 +1,4 @@
--- Believed: the program's answer stands on these definitions.
+-- Believed in part: the program's answer stands on some of these definitions.
 -- The form of cue lists, in words that both the reading and the first fault speak in: the kinds of records, where each
 -- may stand, and what a field must be in the light of the records before it.
 use Rattle.std.specs.Prelude.{ℕ, ◌-◌, ◌==◌, Bool, true, false, not, ◌&&◌, nat_le, if◌then◌else◌, List, [], ◌∷◌, length, codes, Option, Some, None, option_map, is_some, is_none}

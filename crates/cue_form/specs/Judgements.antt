@@ -1,4 +1,4 @@
--- Believed: the program's answer stands on these definitions.
+-- Between crates: the program's answer stands on none of these definitions.
 -- What is judged of each record, in the order in which it is judged: what may stand there, then the number of its fields,
 -- then its fields from the left. Each judgement has the offence that comes where it isn't good.
 use Rattle.std.specs.Prelude.{ℕ, ◌+◌, ◌-◌, ◌==◌, Bool, false, not, ◌&&◌, nat_lt, nat_le, List, [], ◌∷◌, length, chars, Option, Some, None, is_some}
@@ -11,14 +11,14 @@ use Rattle.cc_base.specs.Options.{passes}
 use Rattle.cue_form.specs.Begun.{Begun, cues_of}
 use Rattle.cue_form.specs.Fields.{channel_field, fill_field, frame_field, named, number_field, number_within, rate_field, rgb_field}
 use Rattle.cue_form.specs.Form.{cue_columns, first_row, frame_or_none_field, is_coded, last_row, may_stand, record_kind_of, run_pen_field, suits_row, version_words}
+pub use Rattle.cue_form.specs.FieldForms.{room_at}
 pub use Rattle.cue_form.specs.RecordJudgements.{Judgement, count_judgement, first_offence, judge, within}
 use Rattle.cue_form.specs.Records.{Record, field}
 use Rattle.cue_types.specs.Listing.{most_cues, most_frames}
-use Rattle.cue_types.specs.Shares.{share_room, shares_taken}
+use Rattle.cue_types.specs.Shares.{shares_taken}
 use Rattle.cue_types.specs.declared.cue.Cue.{Cue}
 use Rattle.cue_types.specs.declared.cue.Kind.{Kind}
 use Rattle.cue_types.specs.declared.cue.Run.{Run}
-use Rattle.cue_types.specs.declared.head.Head.{Head}
 use Rattle.cue_types.specs.declared.list.Share.{Share}
 use Rattle.cue_form.specs.declared.offence.Offence.TheVariants as offence
 use Rattle.cue_form.specs.declared.record_kind.RecordKind.{RecordKind}
@@ -41,11 +41,6 @@ head_judgements r =
     ∷ judge (passes (nat_le 1) (number_field (field r 3))) 4 why.Field
     ∷ bound (passes (λ frames. nat_le frames most_frames) (number_field (field r 3))) limit.Frames
     ∷ []
-
--- the bytes that shares may take at the rate of the head
-abbrev pub room_at : Option Head → ℕ
-room_at None = 0
-room_at (Some head) = share_room head.rate
 
 -- share,SERVICE,BYTES after these shares, which have so much room
 abbrev pub share_judgements : ℕ → List Share → Record → List Judgement

@@ -10,10 +10,13 @@ pub use Rattle.cue_types.specs.Shares
 pub use Rattle.cue_types.specs.Windows
 pub mod Answers
 pub mod Begun
+pub mod FieldForms
 pub mod Fields
+pub mod FirstFailing
 pub mod FirstFault
 pub mod Form
 pub mod Judgements
+pub mod Offending
 pub mod Reading
 pub mod Spelling
 pub mod Texts

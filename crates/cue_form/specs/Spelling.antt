@@ -1,7 +1,7 @@
 -- Believed: the program's answer stands on these definitions.
 -- The records that spell a cue list: its head, then its shares, then each cue with its attributes and its runs. A number is spelled in
 -- decimal digits, a text in UTF-8.
-use Rattle.std.specs.Prelude.{◌≡◌, ℕ, Bool, if◌then◌else◌, List, [], ◌∷◌, ◌++◌, map, flat_map, codes, decimal, encode_utf8_all, Option, Some, None}
+use Rattle.std.specs.Prelude.{◌≡◌, ℕ, if◌then◌else◌, List, [], ◌∷◌, ◌++◌, map, flat_map, codes, decimal, encode_utf8_all, Option, Some, None, option_to_list}
 use Rattle.cc_base.specs.declared.rate.Rate.{Rate}
 use Rattle.cc_base.specs.declared.rate.Rate.TheVariants as rate
 use Rattle.line21_codes.specs.Channels.{channel_name}
@@ -10,7 +10,7 @@ use Rattle.dtvcc_codes.specs.declared.pens.Fill.{Fill}
 use Rattle.dtvcc_codes.specs.declared.pens.PenColors.{PenColors}
 use Rattle.dtvcc_codes.specs.declared.pens.Rgb.{Rgb}
 use Rattle.dtvcc_codes.specs.declared.windows.WinAttr.{WinAttr}
-use Rattle.cue_form.specs.Begun.{AreOfVersion, Begun, IsBegun, cues_of}
+use Rattle.cue_form.specs.Begun.{AreOfVersion, Begun, cues_of}
 use Rattle.cue_types.specs.Listing.{Listing, IsFormed}
 use Rattle.cue_form.specs.Records.{Field, Record}
 use Rattle.cue_types.specs.declared.cue.Cue.{Cue}
@@ -75,10 +75,6 @@ cue_record (kind.Win w) cue =
 abbrev pub run_record : Run → Record
 run_record run = codes "run" ∷ decimal run.row ∷ decimal run.col ∷ pen_word run.pen ∷ encode_utf8_all run.text ∷ []
 
--- 1 where words are wrapped
-abbrev pub wrap_number : Bool → ℕ
-wrap_number wrap = if wrap then 1 else 0
-
 -- the digits of a colour
 abbrev pub rgb_word : Rgb → Field
 rgb_word rgb = decimal rgb.r ++ decimal rgb.g ++ decimal rgb.b
@@ -89,7 +85,7 @@ fill_word fill = decimal fill.opacity ++ decimal fill.r ++ decimal fill.g ++ dec
 -- attr,JUSTIFY,PRINT,SCROLL,WRAP,EFFECT,DIR,SPEED,FILL,KIND,BORDER
 abbrev pub attribute_record : WinAttr → Record
 attribute_record a =
-    codes "attr" ∷ decimal a.justify ∷ decimal a.print ∷ decimal a.scroll ∷ decimal (wrap_number a.wrap) ∷ decimal a.effect
+    codes "attr" ∷ decimal a.justify ∷ decimal a.print ∷ decimal a.scroll ∷ decimal (if a.wrap then 1 else 0) ∷ decimal a.effect
     ∷ decimal a.effect_dir ∷ decimal a.effect_speed ∷ fill_word a.fill ∷ decimal a.border_kind ∷ rgb_word a.border ∷ []
 
 -- colour,FG,BG,EDGE
@@ -97,26 +93,17 @@ abbrev pub colour_record : PenColors → Record
 colour_record colors = codes "colour" ∷ fill_word colors.fg ∷ fill_word colors.bg ∷ rgb_word colors.edge ∷ []
 
 -- the record of a window's own attributes, where it has them
-abbrev pub window_attribute_records : Option WinAttr → List Record
-window_attribute_records None = []
-window_attribute_records (Some attributes) = attribute_record attributes ∷ []
-
 abbrev pub attribute_records : Kind → List Record
 attribute_records (kind.Pop channel) = []
 attribute_records (kind.Paint channel) = []
 attribute_records (kind.Roll channel rows) = []
-attribute_records (kind.Win window) = window_attribute_records window.attr
+attribute_records (kind.Win window) = map attribute_record (option_to_list window.attr)
 
--- the record of a run's own colours, where it has them
-abbrev pub colour_records : Option PenColors → List Record
-colour_records None = []
-colour_records (Some colors) = colour_record colors ∷ []
-
--- a run, and its colours directly behind it
+-- a run, and its own colours directly after it, where it has them
 abbrev pub run_records : Run → List Record
-run_records run = run_record run ∷ colour_records run.colors
+run_records run = run_record run ∷ map colour_record (option_to_list run.colors)
 
--- a cue, its window's attributes directly behind it, and its runs
+-- a cue, its window's attributes directly after it, and its runs
 abbrev pub cue_records : Cue → List Record
 cue_records cue = cue_record cue.kind cue ∷ (attribute_records cue.kind ++ flat_map run_records cue.runs)
 
@@ -133,15 +120,6 @@ pub record SpellsList (records : List Record) (l : Listing) : Type 0 where
   pub formed : IsFormed l
   pub allowed : AreOfVersion version l.cues
 
--- a head, or none
-abbrev pub head_records : Option Head → List Record
-head_records None = []
-head_records (Some head) = head_record head ∷ []
-
 -- a begun list
 abbrev pub begun_records : Begun → List Record
-begun_records b = head_records b.head ++ (map share_record b.shares ++ flat_map cue_records (cues_of b))
-
--- these records begin a cue list so
-abbrev pub BeginsList : List Record → Begun → Type 0
-BeginsList records b = (records ≡ begun_records b) × IsBegun b
+begun_records b = map head_record (option_to_list b.head) ++ (map share_record b.shares ++ flat_map cue_records (cues_of b))

@@ -1,10 +1,10 @@
-ghost use Rattle.std.specs.Prelude.{◌≡◌, [], ◌∷◌, IfOk, OnOk, map};
+ghost use Rattle.std.specs.Prelude.{◌≡◌, [], ◌∷◌, IfOk, OnOk, map, option_to_list};
 ghost use Rattle.std.specs.List.{flat_map};
 ghost use Rattle.std.specs.Vec.{vec_items};
 ghost use Rattle.csv.specs.Records.{fields_of};
 ghost use Rattle.cue_form.specs.Printing.{IsBetweenRecords, Wrote, in_order, list_bytes};
 ghost use Rattle.cue_form.specs.Records.{records_of};
-ghost use Rattle.cue_form.specs.Spelling.{attribute_records, cue_records, list_records, run_records, share_record, window_attribute_records};
+ghost use Rattle.cue_form.specs.Spelling.{attribute_record, attribute_records, cue_records, list_records, run_records, share_record};
 
 use crate::spelling::{
     attribute_record, colour_record, cue_record, head_record, run_record, share_record,
@@ -104,7 +104,7 @@ fn write_attributes(
 
 /// The attributes of a window's own.
 fn own_attributes(kind: Kind) -> Option<WinAttr>
-    ensures { attribute_records kind ≡ window_attribute_records result }
+    ensures { attribute_records kind ≡ map attribute_record (option_to_list result) }
 {
     match kind {
         Kind::Win(window) => window.attr,

@@ -1,11 +1,11 @@
 //! The records that spell a cue list, field by field.
 
-ghost use Rattle.std.specs.Prelude.{◌≡◌, [], ◌∷◌, ◌++◌, decimal, encode_utf8_all, IfOk, OnOk, Some};
+ghost use Rattle.std.specs.Prelude.{◌≡◌, [], ◌∷◌, ◌++◌, decimal, encode_utf8_all, IfOk, OnOk, Some, if◌then◌else◌};
 ghost use Rattle.std.specs.String.{string_bytes};
 ghost use Rattle.line21_codes.specs.Channels.{channel_name};
 ghost use Rattle.line21_codes.specs.PenWords.{colour_word, italic_mark, underline_mark};
 ghost use Rattle.csv.specs.Records.{fields_of};
-ghost use Rattle.cue_form.specs.Spelling.{attribute_record, colour_record, cue_record, fill_word, head_record, hide_word, pen_word, rate_word, rgb_word, run_record, share_record, version_word, wrap_number};
+ghost use Rattle.cue_form.specs.Spelling.{attribute_record, colour_record, cue_record, fill_word, head_record, hide_word, pen_word, rate_word, rgb_word, run_record, share_record, version_word};
 ghost use Rattle.cue_types.specs.declared.cue.Kind.TheVariants as kind;
 ghost use Rattle.cue_types.specs.declared.head.Head.{Head};
 
@@ -99,7 +99,7 @@ pub fn colour_record(alloc: Global, colors: PenColors) -> Result<StringRecord, A
 
 /// 1 where words are wrapped.
 fn wrap_number(wrap: bool) -> u32
-    ensures { result ≡ wrap_number wrap }
+    ensures { result ≡ if wrap then 1 else 0 }
 {
     if wrap { 1 } else { 0 }
 }

@@ -33,7 +33,7 @@ are_text text passed =
     let rest = both_of (nat_le (length text) 32) (list_all is_text_byte text) both.1 in
     record { some = leb-true 1 (length text) both.0; few = leb-true (length text) 32 rest.0; bytes = text_bytes text rest.1 }
 
-text_passes : (text : List ℕ) → AreText text → is_text text ≡ true
+pub text_passes : (text : List ℕ) → AreText text → is_text text ≡ true
 text_passes text are =
     rw (le-leb 1 (length text) are.some, le-leb (length text) 32 are.few, bytes_pass text are.bytes) refl
 

@@ -1,4 +1,5 @@
 pub mod FormLemmas
 pub mod PackedLemmas
+pub mod PacketOffences
 pub mod ReadLemmas
 pub mod WriterLemmas

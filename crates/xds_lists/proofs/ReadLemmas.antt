@@ -10,7 +10,8 @@ use Rattle.cue_form.specs.Records.{Record}
 use Rattle.cue_form.specs.declared.offence.Offence.{Offence}
 use Rattle.cue_form.specs.declared.offence.Offence.TheVariants as offence
 use Rattle.xds_lists.proofs.FormLemmas.{record_passed, record_read}
-use Rattle.xds_lists.specs.FirstFault.{IsFirstPacketFault, IsGood}
+use Rattle.xds_lists.proofs.PacketOffences.{packet_back, packet_told}
+use Rattle.xds_lists.specs.FirstFault.{IsFirstPacketFault}
 use Rattle.xds_lists.specs.Form.{IsListed, SpellPackets, packet_judgements, packet_record}
 use Rattle.xds_lists.specs.Reading.{Answers, Offending, listed_of, packet_of_fields, read_from, read_on, read_packets}
 use Rattle.xds_lists.specs.declared.fault.XdsFault.{XdsFault}
@@ -79,6 +80,10 @@ read_on_from (one ∷ more) before number are =
 pub spelled_is_read : (records : List Record) (listed : List Listed) → SpellPackets records listed → read_packets records ≡ Ok listed
 spelled_is_read records listed is = ap read_packets is.records_are ∙ read_on_from listed [] 1 is.in_range
 
+-- no judgement of a record isn't good
+abbrev IsGood : Record → Type 0
+IsGood r = first_offence (packet_judgements r) ≡ None
+
 -- the first record that offends
 record OffendsFrom (records : List Record) (number : ℕ) (it : Offending) : Type 0 where
   before : List Record
@@ -120,29 +125,60 @@ offends_from (r ∷ rs) before number it is = on_offence (first_offence (packet_
       number_is = sym (ap (λ (i : Offending). i.number) same) ∙ omega arith;
     })
 
-pub fault_of_read : (records : List Record) (number place : ℕ) (why : Why) → read_packets records ≡ Err (record { number = number; offence = offence.At place why })
-    → IsFirstPacketFault records (fault.Malformed number place why)
-fault_of_read records number place why is =
-    let it = offends_from records [] 1 (record { number = number; offence = offence.At place why }) is in
-    record {
-      before = it.before;
-      offender = it.offender;
-      after = it.after;
-      place = place;
-      why = why;
-      split = it.split;
-      good = it.good;
-      offends = it.offends;
-      fault_is = ap (λ n. fault.Malformed n place why) it.number_is;
-    }
-
--- a first fault is what is answered
+-- what is read of a good record, and of one that offends
 good_listed : (r : Record) → IsGood r → listed_of r ≡ Ok (packet_of_fields r)
 good_listed r good = ap (λ o. unless o (packet_of_fields r)) good
 
 bad_listed : (r : Record) (o : Offence) → first_offence (packet_judgements r) ≡ Some o → listed_of r ≡ Err o
 bad_listed r o bad = ap (λ q. unless q (packet_of_fields r)) bad
 
+-- good records spell packets, and back
+good_spell : (records : List Record) → All IsGood records → (listed : List Listed) × SpellPackets records listed
+good_spell [] good = ([], record { records_are = refl; in_range = All-nil IsListed })
+good_spell (r ∷ rs) good =
+    let passed = record_passed r (packet_of_fields r) (good_listed r (All-head IsGood r rs good)) in
+    let rest = good_spell rs (All-tail IsGood r rs good) in (
+      packet_of_fields r ∷ rest.0,
+      record {
+        records_are = ap (λ first. first ∷ rs) passed.0 ∙ ap (λ l. packet_record (packet_of_fields r) ∷ l) rest.1.records_are;
+        in_range = All-cons IsListed (packet_of_fields r) rest.0 passed.1 rest.1.in_range;
+      },
+    )
+
+packet_good : (one : Listed) → IsListed one → IsGood (packet_record one)
+packet_good one is =
+    on_offence (first_offence (packet_judgements (packet_record one)))
+    (λ none. none)
+    (λ o bad. let read = sym (bad_listed (packet_record one) o bad) ∙ record_read one is in cc)
+
+packets_good : (listed : List Listed) → All IsListed listed → All IsGood (map packet_record listed)
+packets_good [] are = All-nil IsGood
+packets_good (one ∷ listed) are =
+    All-cons IsGood (packet_record one) (map packet_record listed) (packet_good one (All-head IsListed one listed are))
+    (packets_good listed (All-tail IsListed one listed are))
+
+pub fault_of_read : (records : List Record) (number place : ℕ) (reason : Why) → read_packets records ≡ Err (record { number = number; offence = offence.At place reason })
+    → IsFirstPacketFault records (fault.Malformed number place reason)
+fault_of_read records number place reason is =
+    let it = offends_from records [] 1 (record { number = number; offence = offence.At place reason }) is in
+    let told = packet_told it.offender (offence.At place reason) it.offends in
+    let own : offence.At place reason ≡ offence.At told.0 why.Field = told.1 in
+    let same_place : place ≡ told.0 = cc in
+    let same_reason : reason ≡ why.Field = cc in
+    record {
+      before = it.before;
+      offender = it.offender;
+      after = it.after;
+      place = told.0;
+      split = it.split;
+      good = good_spell it.before it.good;
+      offends = told.2;
+      fault_is =
+          ap (λ n. fault.Malformed n place reason) it.number_is ∙ ap (λ n. fault.Malformed (length it.before + 1) n reason) same_place
+          ∙ ap (λ w. fault.Malformed (length it.before + 1) told.0 w) same_reason;
+    }
+
+-- a first fault is what is answered
 fault_from : (before : List Record) (offender : Record) (after : List Record) (o : Offence) (listed : List Listed) (number : ℕ)
     → All IsGood before → first_offence (packet_judgements offender) ≡ Some o
     → read_from listed number (before ++ offender ∷ after) ≡ Err (record { number = length before + number; offence = o })
@@ -156,5 +192,6 @@ fault_from (r ∷ before) offender after o listed number good bad =
 
 pub first_fault_is_answered : (records : List Record) (wrong : XdsFault) → IsFirstPacketFault records wrong → Answers (read_packets records) (Err wrong)
 first_fault_is_answered records wrong it =
+    let good : All IsGood it.before = subst (All IsGood) (sym it.good.1.records_are) (packets_good it.good.0 it.good.1.in_range) in
     subst (λ f. Answers (read_packets records) (Err f)) (sym it.fault_is)
-    (ap read_packets it.split ∙ fault_from it.before it.offender it.after (offence.At it.place it.why) [] 1 it.good it.offends)
+    (ap read_packets it.split ∙ fault_from it.before it.offender it.after (offence.At it.place why.Field) [] 1 good (packet_back it.offender it.place it.offends))
