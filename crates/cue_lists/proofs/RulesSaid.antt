@@ -11,10 +11,11 @@ use Rattle.cue_lists.specs.declared.rules.RuleFault.{RuleFault}
 use Rattle.cue_lists.specs.declared.rules.against.Against.{Against}
 use Rattle.cue_lists.specs.Rules.{HasFault, IsRuled}
 use Rattle.cue_lists.specs.Rules.Former.{former_number}
-use Rattle.cue_lists.specs.Rules.Keeps.{IsFirstFailing, IsKeptWithEach, IsKeptWithFormer, KeepRules, KeepsRule, NamesOther, rules}
+use Rattle.cue_lists.specs.Rules.Keeps.{IsKeptWithEach, IsKeptWithFormer, KeepRules, KeepsRule, NamesOther, rules}
 use Rattle.cue_lists.specs.Rules.Sentences.{AreLanesRuled}
 use Rattle.cue_lists.specs.Rules.Tests.{AreFaultless, fault_of, first_fault, other_of, verdicts}
-use Rattle.cue_lists.proofs.FirstFailing.{first_here, first_later, holds_at, one_first}
+use Rattle.cue_form.proofs.FirstFailing.{first_here, first_later, holds_at, one_first}
+use Rattle.cue_form.specs.FirstFailing.{IsFirstFailing}
 use Rattle.cue_lists.proofs.LanesSaid.{faultless_lanes, lanes_faultless}
 use Rattle.cue_lists.proofs.ServiceRules.{HidesWindow, window_hides}
 use Rattle.cue_lists.proofs.RulesJudged.{IsJudged, clash_told, delay_covers_told, off_slot_told, order_told, overlap_told, past_end_told, share_told, unhidden_told, window_busy_told}

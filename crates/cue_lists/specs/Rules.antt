@@ -1,10 +1,11 @@
 -- Believed: the program's answer stands on these definitions.
 -- The rules of a cue list: what it is to keep them, and the fault of a list that doesn't.
 use Rattle.std.specs.Prelude.{◌≡◌, ℕ, ◌+◌, List, ◌∷◌, ◌++◌, length, reverse}
+use Rattle.cue_form.specs.FirstFailing.{IsFirstFailing}
 use Rattle.cue_types.specs.Listing.{Listing}
 use Rattle.cue_types.specs.declared.cue.Cue.{Cue}
 use Rattle.cue_lists.specs.declared.rules.RuleFault.{RuleFault}
-use Rattle.cue_lists.specs.Rules.Keeps.{IsFirstFailing, KeepRules, KeepsRule, NamesOther, rules}
+use Rattle.cue_lists.specs.Rules.Keeps.{KeepRules, KeepsRule, NamesOther, rules}
 pub use Rattle.cue_types.specs.Cells
 pub use Rattle.cue_types.specs.Lane
 pub mod Alternatives

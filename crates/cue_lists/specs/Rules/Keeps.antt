@@ -1,13 +1,14 @@
 -- Believed: the program's answer stands on these definitions.
 -- The nine rules of a cue list: what each asks of a cue by itself, of a cue and its former one, and of a cue and each before it; what
 -- it is to keep a rule, and which cue a broken rule names. The cues before a cue are a list with the newest first.
-use Rattle.std.specs.Prelude.{◌≡◌, ◌≢◌, ◌⊎◌, ⊤, ℕ, ◌+◌, ◌*◌, ◌<◌, ◌≤◌, ◌||◌, true, false, List, [], ◌∷◌, ◌++◌, length, Option, Some, None, IfSome, IsSome, MatchOption}
+use Rattle.std.specs.Prelude.{◌≡◌, ◌≢◌, ◌⊎◌, ⊤, ℕ, ◌+◌, ◌*◌, ◌<◌, ◌≤◌, ◌||◌, true, false, List, [], ◌∷◌, length, Option, Some, None, IfSome, IsSome, MatchOption}
 use Rattle.std.specs.List.{AllByRecursion}
 use Rattle.cc_base.specs.Rate.{delay_frames_of}
 use Rattle.cc_base.specs.declared.why.Why.{Why}
 use Rattle.cc_base.specs.declared.why.Why.TheVariants as why
 use Rattle.line21_codes.specs.declared.channels.Chan.{Chan}
 use Rattle.line21_slots.specs.Cadences.{cadence_of, has_slot_in, slot_step}
+use Rattle.cue_form.specs.FirstFailing.{IsFirstFailing}
 use Rattle.cue_types.specs.Cells.{have_shared_cell}
 use Rattle.cue_types.specs.Channels.{uses_window}
 use Rattle.cue_types.specs.Lane.{is_line21, is_paint, is_pop, is_roll, is_win, kind_lane, on_lane}
@@ -82,14 +83,6 @@ IsKeptWithEach why.DelayCovers list earlier cue =
     × IsUndisturbed list.rate cue earlier
     × IsUndisturbed list.rate earlier cue
 IsKeptWithEach _ list earlier cue = ⊤
-
--- the first element of a list of which something doesn't hold, with those before and after it
-pub record IsFirstFailing {A : Type 0} (Holds : A → Type 0) (xs : List A) (x : A) : Type 0 where
-  pub before : List A
-  pub after : List A
-  pub split : xs ≡ before ++ x ∷ after
-  pub all : AllByRecursion Holds before
-  pub fails : Holds x → ⊥
 
 -- the former cue: the nearest one before the cue on its lane, the same channel or service
 abbrev pub IsFormer : List Cue → Cue → Cue → Type 0
