@@ -47,7 +47,7 @@ abbrev pub Enough : ℕ → State → List ℕ → Type 0
 Enough n s xs = (length xs < n) ⊎ ((s ≡ st.StartRecord) × (xs ≡ []))
 
 -- a record takes a turn, and leaves enough of them
-one_row : (cfg : Config) (n : ℕ) (s : State) (xs : List ℕ) (p : Read) → Enough n s xs → next_record cfg s [] [] xs ≡ Some p
+pub one_row : (cfg : Config) (n : ℕ) (s : State) (xs : List ℕ) (p : Read) → Enough n s xs → next_record cfg s [] [] xs ≡ Some p
     → (m : ℕ) × (n ≡ m + 1) × Enough m p.1 p.2 × (records_from cfg n s xs ≡ p.0 ∷ records_from cfg m p.1 p.2)
 unfolding records_from
 one_row cfg zero s xs p (inl h) at = absurd (omega arith)

@@ -1,5 +1,5 @@
 ghost use Rattle.cue_types.specs.Listing.{most_cues};
-ghost use Rattle.std.specs.Prelude.{◌≡◌, ◌==◌, ◌+◌, ◌≤◌, ◌++◌, IfOk, option_to_list, not, nat_le, nat_lt, length};
+ghost use Rattle.std.specs.Prelude.{◌≡◌, ◌==◌, ◌+◌, ◌≤◌, ◌++◌, IfOk, Some, option_to_list, not, nat_le, nat_lt, length};
 ghost use Rattle.std.specs.List.{list_any};
 ghost use Rattle.csv.specs.Records.{fields_of};
 ghost use Rattle.cue_form.specs.Answers.{Answers, GivesBegun};
@@ -49,6 +49,36 @@ impl Draft {
             earlier: Vec::new(alloc),
             last: None,
         }
+    }
+
+    /// A list that has this head alone, which takes no memory.
+    pub fn headed(alloc: Global, head: Head) -> Draft
+        ensures { result ≡ record nothing { head = Some head } }
+    {
+        Draft {
+            head: Some(head),
+            ..Draft::new(alloc)
+        }
+    }
+
+    /// The head, if the list has one.
+    pub fn head(&self) -> Option<Head>
+        ensures { result ≡ self.now.head }
+    {
+        self.head
+    }
+
+    /// The last cue, which has the runs so far, if the list has one.
+    pub fn into_last(self) -> Option<Cue>
+        ensures { result ≡ self.last }
+    {
+        let Draft {
+            head: _,
+            shares: _,
+            earlier: _,
+            last,
+        } = self;
+        last
     }
 
     /// Takes the next record: its kind word is judged first, then the number of its fields, then its fields from the

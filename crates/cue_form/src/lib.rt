@@ -2,11 +2,13 @@
 //! fields of any records have, and which offence of theirs comes first, is here too.
 #![tactic(auto)]
 
+pub use crate::draft::Draft;
 pub use crate::fault::CueFault;
 pub use crate::offence::{Offence, count_place, out_of_form};
 pub use crate::printing::print;
 pub use crate::reading::parse;
 pub use crate::record_fields::{field, is_word, read_number, read_within};
+pub use crate::record_kind::RecordKind;
 
 mod draft;
 pub mod fault;
