@@ -17,13 +17,9 @@ use Rattle.verify_commands.specs.Verified.{AreVerified}
 use Rattle.words_files.specs.Received.{received_at}
 use Rattle.cue_list_commands.specs.Output.{PlacedList, list_grids, list_told, list_windows}
 use Rattle.cue_list_commands.proofs.Outputs.{sound_words}
-use Rattle.xds_commands.proofs.XdsLemmas.{packets_leave_sound}
-use Rattle.xds_commands.specs.XdsFrames.{AreSendable, IsSoundBeside, xds_columns}
 use Rattle.xds_commands.proofs.MadeLemmas.{listed_packets}
-use Rattle.xds_commands.proofs.SoundLemmas.{sound_placed}
-use Rattle.xds_commands.specs.PacketLists.{IsGoodPackets}
-use Rattle.xds_commands.specs.PlacedPackets.{IsPlacedWith, PlacedPackets}
-use Rattle.xds_commands.specs.XdsWords.{IsSoundXds}
+use Rattle.xds_commands.proofs.SoundLemmas.{roomy_made, sound_made}
+use Rattle.xds_commands.specs.XdsWords.{IsSoundXds, xds_framing}
 use Rattle.ccsuite_cli.specs.Verified.{BuiltWordsAreVerified, XdsWordsAreVerified}
 use Rattle.ccsuite_cli.proofs.CleanLemmas.{nothing_found}
 use Rattle.ccsuite_cli.proofs.SizeLemmas.{columns_size}
@@ -55,19 +51,9 @@ built_verified bytes list placed accepted =
     let sound = sound_words bytes made accepted in
     frames_verified list (columns_of list placed) formed (frames_roomy list placed formed accepted.good.ruled (λ service. accepted.placement (Service service))) sound.frames sound.shows
 
--- packets that have room beside the captions of an accepted list can be sent
-pub sendable : (text bytes : List ℕ) (made : PlacedPackets) → IsGoodPackets text made.listed → IsPlacedWith made.listed bytes made
-    → AreSendable made.list made.placed made.listed
-sendable text bytes made good accepted = record {
-  formed = accepted.accepted.good.spelled.formed;
-  ruled = accepted.accepted.good.ruled;
-  placed_is = accepted.accepted.placement;
-  packets = listed_packets made.listed good.spelled.in_range;
-}
-
 pub xds_verified : XdsWordsAreVerified
 xds_verified text bytes made good accepted =
-    let are : AreSendable made.list made.placed made.listed = sendable text bytes made good accepted in
-    let sound : IsSoundXds made = sound_placed made.list made.placed made.listed are accepted.room in
-    let beside : IsSoundBeside made.list made.placed made.listed = packets_leave_sound made.list made.placed made.listed are in
-    frames_verified made.list (xds_columns made.list made.placed made.listed) are.formed beside.alike.fit.roomy sound.frames sound.shows
+    let formed : IsFormed made.list = accepted.accepted.good.spelled.formed in
+    let packets = listed_packets made.listed good.spelled.in_range in
+    let sound : IsSoundXds made = sound_made made.listed bytes made packets accepted in
+    frames_verified made.list (xds_framing made).columns formed (roomy_made made.listed bytes made packets accepted) sound.frames sound.shows

@@ -11,14 +11,13 @@ use Rattle.frame_carrier.specs.Framing.{words_of}
 use Rattle.frame_scheduler.specs.Planned.{Placement}
 use Rattle.xds_commands.proofs.MadeLemmas.{listed_packets}
 use Rattle.xds_commands.proofs.PacketListLemmas.{packet_refusals}
-use Rattle.xds_commands.proofs.SoundLemmas.{sound_placed}
+use Rattle.xds_commands.proofs.SoundLemmas.{sound_made}
 use Rattle.xds_commands.specs.PacketLists.{IsRefusedPackets}
 use Rattle.xds_commands.specs.PlacedPackets.{IsPlacedWith, IsXdsRefusal, PlacedPackets}
 use Rattle.xds_commands.specs.XdsWords.{IsSoundXds, xds_framing}
 use Rattle.xds_commands.specs.declared.xds_of.XdsOf.{XdsOf}
 use Rattle.xds_frames.proofs.ListPacketsLemmas.{room_judged}
 use Rattle.xds_frames.specs.ListPackets.{TellsXdsRoom}
-use Rattle.xds_frames.specs.XdsFrames.{AreSendable}
 use Rattle.xds_lists.specs.Form.{IsListed}
 use Rattle.xds_packets.specs.Sending.{Listed}
 use Rattle.command_base.specs.MadeVerdict.{MadeVerdict}
@@ -42,7 +41,10 @@ XdsJudged listed bytes = ((made : PlacedPackets) × IsPlacedWith listed bytes ma
 by_room : (listed : List Listed) (bytes : List ℕ) (list : Listing) (placed : Placement) → IsAccepted bytes list placed → (number : Option ℕ) → TellsXdsRoom list placed listed number
     → XdsJudged listed bytes
 by_room listed bytes list placed accepted None room =
-    inl (record { list = list; placed = placed; listed = listed }, record { accepted = accepted; listed_are = refl; room = room })
+    inl (
+      record { list = list; placed = placed; listed = listed; codes = room.placed },
+      record { accepted = accepted; listed_are = refl; room = room; codes_are = refl },
+    )
 by_room listed bytes list placed accepted (Some number) first =
     inr (
       status.NoXdsRoom number,
@@ -57,13 +59,7 @@ xds_judged listed bytes = elim (every_list_judged bytes) [
 
 sound_xds : (listed : List Listed) → All IsListed listed → (bytes : List ℕ) (made : PlacedPackets) → IsPlacedWith listed bytes made → IsSoundXds made
 sound_xds listed all bytes made is =
-    let can : AreSendable made.list made.placed made.listed = record {
-      formed = is.accepted.good.spelled.formed;
-      ruled = is.accepted.good.ruled;
-      placed_is = is.accepted.placement;
-      packets = listed_packets made.listed (subst (λ (l : List Listed). All IsListed l) (sym is.listed_are) all);
-    } in
-    sound_placed made.list made.placed made.listed can is.room
+    sound_made listed bytes made (listed_packets made.listed (subst (λ (l : List Listed). All IsListed l) (sym is.listed_are) all)) is
 
 abbrev OfPackets : List Listed → List ℕ → Status → List ℕ → Type 0
 OfPackets listed = MadeVerdict (IsPlacedWith listed) (λ made. words_of (xds_framing made)) IsSoundXds (IsXdsRefusal listed)

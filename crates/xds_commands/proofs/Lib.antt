@@ -1,4 +1,3 @@
-pub use Rattle.xds_frames.proofs.XdsLemmas
 pub mod SoundLemmas
 pub mod MadeLemmas
 pub mod NoPacketsLemmas

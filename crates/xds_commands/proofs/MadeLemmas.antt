@@ -1,5 +1,5 @@
 -- What is made of a cue list with packets.
-use Rattle.std.proofs.Common.{◌≡◌, ℕ, List, All, Option, Some, None, Ok, Err, refl}
+use Rattle.std.proofs.Common.{◌≡◌, ℕ, List, All, Option, Some, None, Ok, Err, refl, subst, sym}
 use Rattle.std.specs.Prelude.{IfSome}
 use Rattle.std.proofs.lemmas.List.Elements.{All-weaker}
 use Rattle.command_base.specs.WholeInput.{ReadsInput}
@@ -11,6 +11,7 @@ use Rattle.frame_scheduler.specs.Columns.{Columns}
 use Rattle.frame_scheduler.specs.Planned.{IsListPlaced, Placement}
 use Rattle.cue_list_commands.specs.Made.{IsMadeOf}
 use Rattle.frame_carrier.specs.declared.programme.Programme.{Programme}
+use Rattle.xds_frames.proofs.CodesLemmas.{columns_given}
 use Rattle.xds_frames.specs.XdsFrames.{AreSendable, HasXdsRoom, xds_columns}
 use Rattle.xds_commands.specs.PlacedPackets.{IsPlacedWith, IsXdsRefusal}
 use Rattle.xds_commands.specs.XdsStatus.{fault_status}
@@ -55,9 +56,13 @@ module _ (list : Listing) (listed : List Listed) (all : All IsListed listed) (ol
     if_left (λ bytes. IsGoodList bytes list) (λ bytes. IsMadeOf (IsPlacedWith listed) xds_framing IsSoundXds left Gives bytes programme) old
         (λ bytes good. record {
           is = record {
-            made = record { list = list; placed = placed; listed = listed };
-            accepted = record { accepted = record { good = good; placement = is }; listed_are = refl; room = room };
-            framing = record { rate_is = rate; gives = gives; count_is = count };
+            made = record { list = list; placed = placed; listed = listed; codes = room.placed };
+            accepted = record { accepted = record { good = good; placement = is }; listed_are = refl; room = room; codes_are = refl };
+            framing = record {
+              rate_is = rate;
+              gives = subst (λ (columns : Columns). Gives columns 0 programme.frames) (sym (columns_given list placed listed room)) gives;
+              count_is = count;
+            };
           };
           sound = sound_placed list placed listed (sendable bytes placed good is) room;
         })

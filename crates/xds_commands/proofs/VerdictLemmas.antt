@@ -20,8 +20,6 @@ use Rattle.xds_commands.specs.XdsWords.{IsSoundXds, xds_framing}
 use Rattle.xds_commands.specs.declared.xds_of.XdsOf.{XdsOf}
 use Rattle.xds_commands.proofs.PacketListLemmas.{good_not_refused, packets_once, packets_refused_once}
 use Rattle.xds_frames.proofs.FrontLemmas.{one_lacks_room, room_lacks_none}
-use Rattle.xds_frames.proofs.ListPacketsLemmas.{room_judged}
-use Rattle.xds_frames.specs.ListPackets.{TellsXdsRoom}
 use Rattle.xds_frames.specs.PlanAnswer.{LacksXdsRoom}
 use Rattle.xds_packets.specs.Sending.{Listed}
 

@@ -1,4 +1,3 @@
-pub use Rattle.xds_frames.specs.XdsFrames
 pub mod PacketLists
 pub mod PlacedPackets
 pub mod XdsStatus

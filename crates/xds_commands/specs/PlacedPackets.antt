@@ -8,19 +8,22 @@ use Rattle.cue_lists.specs.Listing.{Listing}
 use Rattle.frame_scheduler.specs.Planned.{Placement}
 use Rattle.xds_frames.specs.XdsFrames.{HasXdsRoom}
 use Rattle.xds_frames.specs.PlanAnswer.{LacksXdsRoom}
+use Rattle.xds_packets.specs.Places.{PlacedCode}
 use Rattle.xds_packets.specs.Sending.{Listed}
 
--- a placed list, and packets beside its captions
+-- a placed list, packets beside its captions, and their codes in the slots of field 2
 pub record PlacedPackets : Type 0 where
   pub list : Listing
   pub placed : Placement
   pub listed : List Listed
+  pub codes : List PlacedCode
 
--- the bytes are accepted as the list of them with these packets, which all have room beside its captions
+-- the bytes are accepted as the list of them with these packets, which all have room beside its captions, and stand there
 pub record IsPlacedWith (listed : List Listed) (bytes : List ℕ) (made : PlacedPackets) : Type 0 where
   pub accepted : IsAccepted bytes made.list made.placed
   pub listed_are : made.listed ≡ listed
   pub room : HasXdsRoom made.list made.placed made.listed
+  pub codes_are : made.codes ≡ room.placed
 
 -- the bytes are refused with this status, and with no other: as a list, for want of room for its cues, or as one that keeps the rules and
 -- has a placement, for want of room for packets

@@ -14,14 +14,14 @@ use Rattle.cue_list_commands.specs.Shares.{AreSharesKept}
 use Rattle.cue_list_commands.specs.Showing.{ShowsFrames}
 use Rattle.cue_list_commands.specs.Sound.{IsSoundFrames}
 use Rattle.words_files.specs.Received.{received_grids, received_pairs}
-use Rattle.xds_frames.specs.XdsFrames.{xds_columns}
+use Rattle.xds_frames.specs.PacketColumns.{packet_columns}
 use Rattle.xds_commands.specs.PlacedPackets.{PlacedPackets}
 use Rattle.xds_packets.specs.Reading.{packets_within as packets_in}
 use Rattle.xds_packets.specs.Sending.{packets_left}
 
 -- the frames of a placed list with packets
 abbrev pub xds_framing : PlacedPackets → Framing
-xds_framing made = record { rate = made.list.rate; columns = xds_columns made.list made.placed made.listed; count = made.list.frames }
+xds_framing made = record { rate = made.list.rate; columns = packet_columns made.list made.placed made.codes; count = made.list.frames }
 
 -- the distribution packets of these
 abbrev pub xds_packets : PlacedPackets → List Frame
@@ -32,7 +32,7 @@ xds_packets made = packets_of (xds_framing made)
 -- that `build` puts of the list; the delay of each window cue is sent; and the packets that are read in the pairs of field 2 are just those of
 -- the list of packets, in their order
 pub record IsSoundXds (made : PlacedPackets) : Type 0 where
-  pub frames : IsSoundFrames made.list.rate made.list.frames (xds_columns made.list made.placed made.listed)
+  pub frames : IsSoundFrames made.list.rate made.list.frames (packet_columns made.list made.placed made.codes)
   pub shares : AreSharesKept made.list.rate (share_in made.list) made.list.frames (xds_packets made)
   pub shows : ShowsFrames (list_told made.list) (list_grids made.list) (list_windows made.list) made.list.frames (xds_packets made)
   pub built_grids : (frame : ℕ) → frame < made.list.frames → (chan : Chan)
@@ -44,4 +44,4 @@ pub record IsSoundXds (made : PlacedPackets) : Type 0 where
 
 -- without packets these are the words that `build` puts
 abbrev pub NoPacketsAreBuilt : Type 0
-NoPacketsAreBuilt = (list : Listing) (placed : Placement) → words_of (xds_framing (record { list = list; placed = placed; listed = [] })) ≡ build_output list placed
+NoPacketsAreBuilt = (list : Listing) (placed : Placement) → words_of (xds_framing (record { list = list; placed = placed; listed = []; codes = [] })) ≡ build_output list placed

@@ -9,3 +9,4 @@ pub mod LoadsLemmas
 pub mod PacketsLemmas
 pub mod PlanLemmas
 pub mod RoomLemmas
+pub mod CodesLemmas

@@ -2,6 +2,7 @@ pub mod Outside
 pub mod PacketTimeline
 pub mod Beside
 pub mod FreeSlots
+pub mod PacketColumns
 pub mod XdsFrames
 pub mod ListPackets
 pub mod Loads
