@@ -7,5 +7,4 @@ pub use Rattle.grid_print.specs.Screens
 pub mod Builders
 pub mod Receivings
 pub mod Receptions
-pub mod Sources
 pub mod Verifications

@@ -1,10 +1,11 @@
-use caption_streams::{Building, FeedFault, NextFrame, Receiving, SliceSource, Verifying};
+use caption_streams::{Building, FeedFault, NextFrame, Receiving, Verifying};
 use cc_base::{MemorySink, Put, Refusal, Source, Took, Why};
 use cc_receiver::{Ended, Fed};
 use command_base::{Place, Status};
 use cue_lists::RuleFault;
 use findings::{Finding, Kind45, Which};
 use line21_codes::{Chan, Colour};
+use reported_runs::SliceSource;
 use std::alloc::Global;
 use std::test::Fail;
 

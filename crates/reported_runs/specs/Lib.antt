@@ -2,3 +2,4 @@ pub use Rattle.ccsuite_cli.specs.LoadList
 pub use Rattle.ccsuite_cli.specs.declared.command.Command
 pub mod Memory
 pub mod Reports
+pub mod Sources

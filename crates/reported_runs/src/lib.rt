@@ -5,9 +5,11 @@
 pub use crate::line::text_of;
 pub use crate::report::{Report, TEXT, report_of};
 pub use crate::run::run_in_memory;
+pub use crate::slice_source::SliceSource;
 pub use ccsuite_cli::{Command, MOST_LOAD};
 
 mod line;
 mod output;
 mod report;
 mod run;
+mod slice_source;
