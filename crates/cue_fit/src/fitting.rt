@@ -1,0 +1,101 @@
+ghost use Rattle.std.specs.Prelude.{◌≡◌, ◌<◌, ◌≤◌, All, length, reverse};
+ghost use Rattle.cue_lists.specs.Cues.{IsCueFormed};
+ghost use Rattle.cue_lists.specs.Listing.{IsFormed, most_cues, most_frames};
+ghost use Rattle.cue_lists.specs.Rules.{IsRuled};
+ghost use Rattle.cue_fit.specs.Fitted.{list_of, most_late};
+ghost use Rattle.cue_fit.specs.Shown.{with_shown};
+ghost use Rattle.cue_fit.specs.Tries.{FindsShow, FitsList, TellsPlan};
+
+use crate::shown::{add_shown, list_with, list_with_shown};
+use cue_lists::{Cue, CueList, check};
+use frame_scheduler::{PlanFault, plan};
+use std::alloc::Global;
+
+/// The most frames that a cue may be shown late.
+pub const MOST_LATE: u32 = 1_000;
+
+/// Fits a list that keeps the rules: each cue in turn is shown in the first frame, from its SHOW on, in which the list of the cues so
+/// far keeps the rules and has a placement. NoRoom names the first cue for which none of so many frames after its SHOW, 0 to 1,000,
+/// is such a one.
+///
+/// A line 21 cue loads where the former cue of its channel is shown, if that is later than its LOAD. Where a pop-on cue takes
+/// the place of the former one, the HIDE of that one goes with its SHOW. All else stays.
+pub fn fit(alloc: Global, list: &CueList, late: u32) -> Result<CueList, PlanFault>
+    requires ruled { IsRuled list.now }
+    requires late { late ≤ most_late }
+    ensures { FitsList late list.now result }
+{
+    let cues = list.cues();
+    let mut fitted = Vec::new(alloc);
+    for (index, cue) in cues.iter().enumerate() {
+        let Some(show) = first_show(alloc, list, &fitted, cue, late)? else {
+            return Err(PlanFault::NoRoom(index as u32 + 1));
+        };
+        if let Err(error) = add_shown(alloc, &mut fitted, cue, show) {
+            return Err(PlanFault::Memory(error));
+        }
+    }
+    match list_with(alloc, list, fitted) {
+        Ok(list) => Ok(list),
+        Err(error) => Err(PlanFault::Memory(error)),
+    }
+}
+
+/// The first frame, from its SHOW on, in which a cue may be shown after those so far; None where that is more than so many frames late.
+fn first_show(
+    alloc: Global,
+    list: &CueList,
+    earlier: &[Cue],
+    cue: &Cue,
+    late: u32,
+) -> Result<Option<u32>, PlanFault>
+    requires list { IsFormed list.now }
+    requires formed { All IsCueFormed earlier.now }
+    requires few { length earlier.now < most_cues }
+    requires cue { IsCueFormed cue.now }
+    requires early { cue.now.show ≤ most_frames }
+    requires late { late ≤ most_late }
+    ensures { FindsShow late list.now (reverse earlier.now) cue.now result }
+{
+    for show in cue.show..cue.show + late + 1 {
+        if may_show(alloc, list, earlier, cue, show)? {
+            return Ok(Some(show));
+        }
+    }
+    Ok(None)
+}
+
+/// Whether a cue may be shown in a frame after those so far: the list of all of them keeps the rules and has a placement.
+fn may_show(
+    alloc: Global,
+    list: &CueList,
+    earlier: &[Cue],
+    cue: &Cue,
+    show: u32,
+) -> Result<bool, PlanFault>
+    requires list { IsFormed list.now }
+    requires formed { All IsCueFormed earlier.now }
+    requires few { length earlier.now < most_cues }
+    requires cue { IsCueFormed cue.now }
+    ensures { TellsPlan
+        (list_of list.now (with_shown show cue.now (reverse earlier.now))) result }
+{
+    match list_with_shown(alloc, list, earlier, cue, show) {
+        Ok(longer) => has_plan(alloc, &longer),
+        Err(error) => Err(PlanFault::Memory(error)),
+    }
+}
+
+/// Whether a list keeps the rules and has a placement.
+fn has_plan(alloc: Global, list: &CueList) -> Result<bool, PlanFault>
+    ensures { TellsPlan list.now result }
+{
+    if let Err(_) = check(list) {
+        return Ok(false);
+    }
+    match plan(alloc, list) {
+        Ok(_) => Ok(true),
+        Err(PlanFault::NoRoom(_)) => Ok(false),
+        Err(PlanFault::Memory(error)) => Err(PlanFault::Memory(error)),
+    }
+}

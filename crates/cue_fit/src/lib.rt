@@ -1,0 +1,10 @@
+//! Fitting: a cue list in which a cue that lacks room is shown as few frames late as the rules and the room let it.
+#![tactic(auto)]
+
+pub use crate::fitting::{MOST_LATE, fit};
+pub use frame_scheduler::PlanFault;
+
+mod copies;
+mod fitting;
+mod former;
+mod shown;
