@@ -9,6 +9,10 @@ use Rattle.cue_list_commands.proofs.ListVerdictLemmas.{build_one, cues_one, pair
 use Rattle.cue_list_commands.proofs.EveryLemmas.{every_build, every_cues, every_pairs}
 use Rattle.dual_commands.proofs.VerdictLemmas.{dual_one}
 use Rattle.dual_commands.proofs.EveryLemmas.{every_dual}
+use Rattle.fit_commands.proofs.VerdictLemmas.{every_fit, fit_one}
+use Rattle.help_commands.proofs.VerdictLemmas.{every_text, text_one}
+use Rattle.help_commands.specs.Pages.{page_text}
+use Rattle.help_commands.specs.declared.texts.TheConstants.{VERSION_LINE}
 use Rattle.insert_commands.proofs.VerdictLemmas.{insert_one}
 use Rattle.insert_commands.proofs.EveryLemmas.{every_insert}
 use Rattle.load_commands.proofs.VerdictLemmas.{every_load, load_one}
@@ -29,7 +33,7 @@ use Rattle.xds_commands.proofs.VerdictLemmas.{xds_one}
 use Rattle.xds_commands.proofs.EveryLemmas.{every_xds}
 use Rattle.ccsuite_cli.specs.Answer.{input_for, side_for, verdict_of}
 use Rattle.ccsuite_cli.specs.Verdict.{EveryInputHasVerdict, FaultsAreTold, VerdictIsAnswered, VerdictIsOne}
-use Rattle.ccsuite_cli.specs.declared.command.Command.TheVariants.{Build, Conceal, Convert, Cues, Decode, Dual, Export, ExportMcc, Import, ImportMcc, Insert, Load, Pairs, Show, Verify, Xds, XdsShow}
+use Rattle.ccsuite_cli.specs.declared.command.Command.TheVariants.{Build, Conceal, Convert, Cues, Decode, Dual, Export, ExportMcc, Fit, Help, Import, ImportMcc, Insert, Load, Pairs, Show, Verify, Version, Xds, XdsShow}
 
 pub verdict_one : VerdictIsOne
 verdict_one Pairs = pairs_one
@@ -49,6 +53,9 @@ verdict_one (Export time) = export_one time
 verdict_one ImportMcc = import_mcc_one
 verdict_one (ExportMcc count time) = export_mcc_one (start_at count time)
 verdict_one (Load count) = load_one count
+verdict_one (Fit late) = fit_one late
+verdict_one (Help page) = text_one (page_text page)
+verdict_one Version = text_one VERSION_LINE.now
 
 pub every_input : EveryInputHasVerdict
 every_input Pairs runs decided = every_pairs
@@ -68,6 +75,9 @@ every_input (Export time) runs decided = every_export time
 every_input ImportMcc runs decided = every_import_mcc
 every_input (ExportMcc count time) runs decided = every_export_mcc (start_at count time) (starts_in_day count time runs)
 every_input (Load count) runs decided = every_load count runs.0 runs.1
+every_input (Fit late) runs decided = every_fit late runs
+every_input (Help page) runs decided = every_text (page_text page)
+every_input Version runs decided = every_text VERSION_LINE.now
 
 pub verdict_answered : VerdictIsAnswered
 verdict_answered command aside input verdict text side later old new answer plain says side_is read is =

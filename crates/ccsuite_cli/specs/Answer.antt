@@ -11,6 +11,10 @@ use Rattle.cue_list_commands.specs.Accepted.{IsGoodList}
 use Rattle.cue_list_commands.specs.ListVerdict.{BuildVerdict, CuesVerdict, PairsVerdict}
 use Rattle.cue_list_commands.specs.Output.{IsPlacedAs}
 use Rattle.dual_commands.specs.DualVerdict.{DualVerdict, IsSecond}
+use Rattle.fit_commands.specs.FitVerdict.{FitVerdict}
+use Rattle.help_commands.specs.Pages.{page_text}
+use Rattle.help_commands.specs.TextVerdict.{TextVerdict}
+use Rattle.help_commands.specs.declared.texts.TheConstants.{VERSION_LINE}
 use Rattle.insert_commands.specs.InsertVerdict.{InsertVerdict}
 use Rattle.load_commands.specs.LoadVerdict.{LoadVerdict}
 use Rattle.mcc_commands.specs.ExportMcc.{ExportMccVerdict, start_at}
@@ -25,7 +29,7 @@ use Rattle.words_commands.specs.Verdicts.{ChangesVerdict, ShowVerdict}
 use Rattle.xds_commands.specs.XdsVerdict.{AreItsPackets, XdsVerdict}
 use Rattle.ccsuite_cli.specs.Command.{has_side_file}
 use Rattle.ccsuite_cli.specs.declared.command.Command.{Command}
-use Rattle.ccsuite_cli.specs.declared.command.Command.TheVariants.{Build, Conceal, Convert, Cues, Decode, Dual, Export, ExportMcc, Import, ImportMcc, Insert, Load, Pairs, Show, Verify, Xds, XdsShow}
+use Rattle.ccsuite_cli.specs.declared.command.Command.TheVariants.{Build, Conceal, Convert, Cues, Decode, Dual, Export, ExportMcc, Fit, Help, Import, ImportMcc, Insert, Load, Pairs, Show, Verify, Version, Xds, XdsShow}
 
 -- what a command makes of its side file and its input
 abbrev pub verdict_of : Command → Verdict
@@ -46,14 +50,19 @@ verdict_of (Export time) aside = ExportVerdict time
 verdict_of ImportMcc aside = ImportMccVerdict
 verdict_of (ExportMcc count time) aside = ExportMccVerdict (start_at count time)
 verdict_of (Load count) aside = LoadVerdict count
+verdict_of (Fit late) aside = FitVerdict late
+verdict_of (Help page) aside = TextVerdict (page_text page)
+verdict_of Version aside = TextVerdict VERSION_LINE.now
 
 -- a command that names a side file reads it; a run of another is that of an empty one
 abbrev pub side_for : Command → SideEnds → SideEnds
 side_for command side = if has_side_file (Some command) then side else no_side
 
--- `load` reads no input: its run is that of an empty one
+-- `load`, `help` and `version` read no input: their run is that of an empty one
 abbrev pub input_for : Command → Ends → Ends
 input_for (Load count) e = ends (Some []) e.read_faults e.written e.write_faults
+input_for (Help page) e = ends (Some []) e.read_faults e.written e.write_faults
+input_for Version e = ends (Some []) e.read_faults e.written e.write_faults
 input_for _ e = e
 
 -- what a run answers; words that are no command are Usage, and nothing happened
@@ -70,9 +79,12 @@ IsUntouched (Some Pairs) side old new answer = ⊤
 IsUntouched (Some Build) side old new answer = ⊤
 IsUntouched (Some Cues) side old new answer = ⊤
 IsUntouched (Some Import) side old new answer = ⊤
+IsUntouched (Some (Fit late)) side old new answer = ⊤
 IsUntouched (Some Dual) side old new answer = AwaitsSide IsSecond side old new
 IsUntouched (Some Xds) side old new answer = AwaitsSide AreItsPackets side old new
 IsUntouched (Some Verify) side old new answer = LeavesAll old new answer × AwaitsSide IsGoodList side old new
 IsUntouched (Some Insert) side old new answer = LeavesAll old new answer × AwaitsSide IsPlacedAs side old new
 IsUntouched (Some (Load count)) side old new answer = LeavesAll old new answer × (new.left ≡ old.left)
+IsUntouched (Some (Help page)) side old new answer = LeavesAll old new answer × (new.left ≡ old.left)
+IsUntouched (Some Version) side old new answer = LeavesAll old new answer × (new.left ≡ old.left)
 IsUntouched (Some command) side old new answer = LeavesAll old new answer

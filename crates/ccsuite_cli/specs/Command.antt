@@ -1,8 +1,11 @@
 -- Believed in part: the program's answer stands on some of these definitions.
 -- The command lines of the program: the words of each command, the line of usage, and the side file that a command reads.
 use Rattle.std.specs.Prelude.{◌≡◌, ◌≤◌, ◌++◌, ◌&&◌, not, ℕ, List, [], ◌∷◌, map, Option, option_map, Some, None, codes, if◌then◌else◌, Bool, true, false, ⊤}
-use Rattle.std.specs.Option.{option_and_then}
+use Rattle.std.specs.Option.{option_and_then, option_or}
 use Rattle.cue_lists.specs.Fields.{named, number_within}
+use Rattle.fit_commands.specs.Fitted.{most_late}
+use Rattle.help_commands.specs.Pages.{page_of}
+use Rattle.help_commands.specs.declared.page.Page.TheVariants.{Commands}
 use Rattle.load_commands.specs.LoadList.{most_load}
 use Rattle.time_codes.specs.Countings.{has_drop_frame, is_time_code_in}
 use Rattle.time_codes.specs.Texts.{time_of_text}
@@ -11,7 +14,7 @@ use Rattle.time_codes.specs.declared.counting.Counting.{Counting}
 use Rattle.time_codes.specs.declared.counting.Counting.TheVariants as counting
 use Rattle.time_codes.specs.declared.time_code.TimeCode.{TimeCode}
 use Rattle.ccsuite_cli.specs.declared.command.Command.{Command}
-use Rattle.ccsuite_cli.specs.declared.command.Command.TheVariants.{Build, Conceal, Convert, Cues, Decode, Dual, Export, ExportMcc, Import, ImportMcc, Insert, Load, Pairs, Show, Verify, Xds, XdsShow}
+use Rattle.ccsuite_cli.specs.declared.command.Command.TheVariants.{Build, Conceal, Convert, Cues, Decode, Dual, Export, ExportMcc, Fit, Help, Import, ImportMcc, Insert, Load, Pairs, Show, Verify, Version, Xds, XdsShow}
 
 -- the last frame that `show` can name
 abbrev pub last_frame : ℕ
@@ -48,17 +51,19 @@ start_in count text = option_and_then (λ t. if is_time_code_in count t && is_ma
 abbrev pub mcc_of : List ℕ → List ℕ → Option Command
 mcc_of rate time = option_and_then (λ count. option_map (λ start. ExportMcc count start) (start_in count time)) (counting_of rate)
 
--- a command whose time code, if it has one, is of the day, and whose number of captions, if it has one, is that of a load
+-- a command whose time code, if it has one, is of the day, and whose number, if it has one, is that of a load or of a fit
 abbrev pub IsRunnable : Option Command → Type 0
 IsRunnable (Some (Export time)) = is_time_code time ≡ true
 IsRunnable (Some (ExportMcc count time)) = is_time_code_in count time ≡ true
 IsRunnable (Some (Load count)) = (1 ≤ count) × (count ≤ most_load)
+IsRunnable (Some (Fit late)) = late ≤ most_late
 IsRunnable _ = ⊤
 
--- what stands behind the word of a command: nothing, or one or two arguments, by their names in the line of usage, which make it a
--- command, if they make it one
+-- what stands behind the word of a command: nothing, or nothing or one argument, or one or two arguments, by their names in the line of
+-- usage, which make it a command, if they make it one
 pub data Behind : Type 0 where
   Nothing : Command → Behind
+  Optional : Command → (List ℕ → Option Command) → Behind
   Argument : List ℕ → (List ℕ → Option Command) → Behind
   Arguments : List ℕ → List ℕ → (List ℕ → List ℕ → Option Command) → Behind
 
@@ -82,16 +87,29 @@ commands =
     ∷ (codes "convert", Nothing Convert)
     ∷ (codes "import-mcc", Nothing ImportMcc)
     ∷ (codes "export-mcc", Arguments (codes "RATE") (codes "TIME") (λ rate time. mcc_of rate time))
+    ∷ (codes "fit", Argument (codes "N") (λ late. option_map Fit (number_within 0 most_late late)))
+    ∷ (codes "help", Optional (Help Commands) (λ word. option_map Help (page_of word)))
+    ∷ (codes "version", Nothing Version)
+    ∷ []
+
+-- other words for some of them, which the line of usage hasn't
+abbrev pub other_words : List (List ℕ × Command)
+other_words =
+    (codes "--help", Help Commands)
+    ∷ (codes "-h", Help Commands)
+    ∷ (codes "--version", Version)
     ∷ []
 
 -- the command of a word behind which nothing stands
 abbrev pub alone : Behind → Option Command
 alone (Nothing command) = Some command
+alone (Optional command more) = Some command
 alone _ = None
 
 -- the command of a word and this argument
 abbrev pub with_argument : List ℕ → Behind → Option Command
 with_argument argument (Argument name command) = command argument
+with_argument argument (Optional other command) = command argument
 with_argument argument _ = None
 
 -- and these two
@@ -101,7 +119,7 @@ with_arguments one other _ = None
 
 -- the command that these words are, if they are one
 abbrev pub command_of : List (List ℕ) → Option Command
-command_of (word ∷ []) = option_and_then alone (named commands word)
+command_of (word ∷ []) = option_or (option_and_then alone (named commands word)) (named other_words word)
 command_of (word ∷ argument ∷ []) = option_and_then (with_argument argument) (named commands word)
 command_of (word ∷ one ∷ other ∷ []) = option_and_then (with_arguments one other) (named commands word)
 command_of _ = None
@@ -122,6 +140,7 @@ side_path _ = None
 -- how the line of usage has a command
 abbrev pub usage_of : List ℕ × Behind → List ℕ
 usage_of (word, Nothing command) = word
+usage_of (word, Optional command more) = word
 usage_of (word, Argument name command) = word ++ codes " " ++ name
 usage_of (word, Arguments name another command) = word ++ codes " " ++ name ++ codes " " ++ another
 

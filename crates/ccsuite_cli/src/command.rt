@@ -2,11 +2,14 @@ ghost use Rattle.std.specs.Option.{option_copied};
 ghost use Rattle.std.specs.Prelude.{◌≡◌, ◌≤◌, [], ◌∷◌, IfSome, map, string_bytes, true};
 ghost use Rattle.ccsuite_cli.specs.Command.{IsRunnable, command_of, counting_of, has_side_file, is_marked, last_frame, side_path, start_in, start_of};
 ghost use Rattle.cue_lists.specs.Fields.{number_within};
+ghost use Rattle.fit_commands.specs.Fitted.{most_late};
 ghost use Rattle.load_commands.specs.LoadList.{most_load};
 ghost use Rattle.time_codes.specs.Countings.{is_time_code_in};
 ghost use Rattle.time_codes.specs.TimeCodes.{is_time_code};
 
 use cue_lists::read_within;
+use fit_commands::MOST_LATE;
+use help_commands::{Page, page_of};
 use load_commands::MOST_LOAD;
 use time_codes::{Counting, TimeCode, frame_of, read_time};
 
@@ -48,11 +51,17 @@ pub enum Command {
     ImportMcc,
     /// `export-mcc RATE TIME`: the MCC file of all packets of a words file, whose time codes count so and whose frame 0 has this one.
     ExportMcc(Counting, TimeCode),
+    /// `fit N`: a cue list whose cues are shown as few frames late as they need, at most so many, 0 to 1,000.
+    Fit(u32),
+    /// `help`, and `help COMMAND`: a page of help.
+    Help(Page),
+    /// `version`: the program's version.
+    Version,
 }
 
 /// The line for words that are no command.
 pub(crate) const USAGE: &[u8] =
-    b"usage: ccsuite pairs|build|decode|show FRAME|verify CUES|insert CUES|import|export TIME|cues|load N|dual CUES|xds PACKETS|xds-show|conceal|convert|import-mcc|export-mcc RATE TIME\n";
+    b"usage: ccsuite pairs|build|decode|show FRAME|verify CUES|insert CUES|import|export TIME|cues|load N|dual CUES|xds PACKETS|xds-show|conceal|convert|import-mcc|export-mcc RATE TIME|fit N|help|version\n";
 
 /// The last frame that `show` can name.
 const LAST_FRAME: u64 = 4_294_967_294;
@@ -106,12 +115,15 @@ fn read_word(word: &str) -> Option<Command>
         "conceal" => Some(Command::Conceal),
         "convert" => Some(Command::Convert),
         "import-mcc" => Some(Command::ImportMcc),
+        "help" | "--help" | "-h" => Some(Command::Help(Page::Commands)),
+        "version" | "--version" => Some(Command::Version),
         _ => None,
     }
 }
 
 /// The command of a word and its argument: `show` with the number of a frame, `verify`, `insert`, `dual` and `xds` with the path of a
-/// side file, whatever it is, `export` with a time code, `load` with the number of captions.
+/// side file, whatever it is, `export` with a time code, `load` with the number of captions, `fit` with a number of frames, `help`
+/// with the word of a command.
 fn read_two(word: &str, argument: &str) -> Option<Command>
     ensures command { result ≡ command_of (word.now ∷ argument.now ∷ []) }
     ensures runnable { IsRunnable result }
@@ -130,6 +142,11 @@ fn read_two(word: &str, argument: &str) -> Option<Command>
             Some(count) => Some(Command::Load(count)),
             None => None,
         },
+        "fit" => match read_late(argument) {
+            Some(late) => Some(Command::Fit(late)),
+            None => None,
+        },
+        "help" => page_of(argument).map(Command::Help),
         _ => None,
     }
 }
@@ -220,6 +237,17 @@ fn read_count(number: &str) -> Option<u32>
 {
     match read_within(1, u64::from(MOST_LOAD), number.as_bytes()) {
         Some(count) => Some(count as u32),
+        None => None,
+    }
+}
+
+/// The number of frames that `fit` may show a cue late, written as in cue lists, 0 to 1,000.
+fn read_late(number: &str) -> Option<u32>
+    ensures late { result ≡ number_within 0 most_late number.now }
+    ensures within { IfSome result (λ late. late ≤ most_late) }
+{
+    match read_within(0, u64::from(MOST_LATE), number.as_bytes()) {
+        Some(late) => Some(late as u32),
         None => None,
     }
 }

@@ -12,6 +12,8 @@ use command_base::Status;
 use convert_commands::run_convert;
 use cue_list_commands::{run_build, run_cues, run_pairs};
 use dual_commands::run_dual;
+use fit_commands::run_fit;
+use help_commands::{run_help, run_version};
 use insert_commands::run_insert;
 use load_commands::run_load;
 use mcc_commands::{run_export_mcc, run_import_mcc};
@@ -120,5 +122,8 @@ pub fn perform<M: Source, S: Source, O: Sink>(
         Command::Convert => run_convert(alloc, input, out),
         Command::ImportMcc => run_import_mcc(alloc, input, out),
         Command::ExportMcc(count, time) => run_export_mcc(alloc, count, time, input, out),
+        Command::Fit(late) => run_fit(alloc, late, input, out),
+        Command::Help(page) => run_help(page, out),
+        Command::Version => run_version(out),
     }
 }

@@ -124,3 +124,24 @@ returns-in-Load-clause-answer g c = rw c.in-Load.is (c.run_load.ensures _).0
 
 pub returns-in-Load-clause-untouched : goal.returns-in-Load-clause-untouched
 returns-in-Load-clause-untouched g c = rw c.in-Load.is (load_leaves _ _ _ _ _ _ c.run_load.result (c.run_load.ensures _).1, refl)
+
+pub run_fit-requires : goal.run_fit-requires
+run_fit-requires g c = rw c.in-Fit.is at c.requires
+
+pub returns-in-Fit-clause-answer : goal.returns-in-Fit-clause-answer
+returns-in-Fit-clause-answer g c = rw c.in-Fit.is c.run_fit.ensures
+
+pub returns-in-Fit-clause-untouched : goal.returns-in-Fit-clause-untouched
+returns-in-Fit-clause-untouched g c = rw c.in-Fit.is tt
+
+pub returns-in-Help-clause-answer : goal.returns-in-Help-clause-answer
+returns-in-Help-clause-answer g c = rw c.in-Help.is (c.run_help.ensures _).0
+
+pub returns-in-Help-clause-untouched : goal.returns-in-Help-clause-untouched
+returns-in-Help-clause-untouched g c = rw c.in-Help.is (load_leaves _ _ _ _ _ _ c.run_help.result (c.run_help.ensures _).1, refl)
+
+pub returns-in-Version-clause-answer : goal.returns-in-Version-clause-answer
+returns-in-Version-clause-answer g c = rw c.in-Version.is (c.run_version.ensures _).0
+
+pub returns-in-Version-clause-untouched : goal.returns-in-Version-clause-untouched
+returns-in-Version-clause-untouched g c = rw c.in-Version.is (load_leaves _ _ _ _ _ _ c.run_version.result (c.run_version.ensures _).1, refl)
