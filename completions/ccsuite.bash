@@ -6,10 +6,12 @@ _ccsuite() {
     if [[ ${COMP_WORDS[COMP_CWORD - 1]} == *[\<\>]* ]]; then
         compopt -o default 2> /dev/null
     elif ((COMP_CWORD == 1)); then
-        COMPREPLY=($(compgen -W 'pairs build cues decode show conceal xds-show convert verify insert import export import-mcc export-mcc load dual xds' -- "$word"))
+        COMPREPLY=($(compgen -W 'build pairs cues fit dual xds decode show conceal xds-show verify insert import export import-mcc export-mcc convert load help version' -- "$word"))
     elif ((COMP_CWORD == 2)) && [[ ${COMP_WORDS[1]} == @(verify|insert|dual|xds) ]]; then
         compopt -o filenames 2> /dev/null
         mapfile -t COMPREPLY < <(compgen -f -- "$word")
+    elif ((COMP_CWORD == 2)) && [[ ${COMP_WORDS[1]} == help ]]; then
+        COMPREPLY=($(compgen -W 'build pairs cues fit dual xds decode show conceal xds-show verify insert import export import-mcc export-mcc convert load help version' -- "$word"))
     elif ((COMP_CWORD == 2)) && [[ ${COMP_WORDS[1]} == export-mcc ]]; then
         COMPREPLY=($(compgen -W '24 25 30 30DF 50 60 60DF' -- "$word"))
     fi

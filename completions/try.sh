@@ -75,7 +75,7 @@ for shell in bash zsh fish; do
         echo "$shell isn't installed: its completions weren't tried"
         continue
     fi
-    offers "$shell" 'ccsuite ' 'pairs build cues decode show conceal xds-show convert verify insert import export import-mcc export-mcc load dual xds'
+    offers "$shell" 'ccsuite ' 'build pairs cues fit dual xds decode show conceal xds-show verify insert import export import-mcc export-mcc convert load help version'
     offers "$shell" 'ccsuite b' 'build'
     offers "$shell" 'ccsuite c' 'cues conceal convert'
     offers "$shell" 'ccsuite q' ''
