@@ -1,12 +1,3 @@
-mod CleanLemmas
 mod CommandLemmas
-mod ConcealedLemmas
-mod ConvertedLemmas
-mod FilledLemmas
 mod LineLemmas
-mod SeenLemmas
-mod SeenAgainLemmas
-mod SizeLemmas
 mod VerdictLemmas
-mod VerifiedLemmas
-mod XdsSeenLemmas

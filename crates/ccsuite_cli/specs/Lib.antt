@@ -1,10 +1,5 @@
 pub use Rattle.load_commands.specs.LoadList
 pub mod Answer
 pub mod Command
-pub mod Converted
-pub mod Earlier
-pub mod Seen
-pub mod SeenAgain
 pub mod StatusLine
 pub mod Verdict
-pub mod Verified

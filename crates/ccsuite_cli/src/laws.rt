@@ -1,10 +1,5 @@
 //! Laws of what a run answers and puts: functions that do nothing, with the laws as their contracts.
-ghost use Rattle.ccsuite_cli.specs.Converted.{BuiltWordsAreFit};
-ghost use Rattle.ccsuite_cli.specs.Seen.{BuiltWordsAreSeen, DualWordsAreSeen, InsertedWordsAreSeen, XdsWordsAreSeen};
-ghost use Rattle.ccsuite_cli.specs.SeenAgain.{AllFramesAreBuilt, BuiltWordsAreSeenAgain, DeliveredIsConcealed, DeliveredIsUnrefused};
-ghost use Rattle.ccsuite_cli.specs.Earlier.{EarlierWordsStay};
 ghost use Rattle.ccsuite_cli.specs.Verdict.{EveryInputHasVerdict, FaultsAreTold, VerdictIsAnswered, VerdictIsOne};
-ghost use Rattle.ccsuite_cli.specs.Verified.{BuiltWordsAreVerified, XdsWordsAreVerified};
 
 /// The law that of bytes each command makes one status, but for ReadFault and WriteFault.
 pub fn verdict_is_one()
@@ -26,73 +21,4 @@ pub fn verdict_is_answered()
 /// WriteFault where the output's is.
 pub fn faults_are_told()
     ensures { FaultsAreTold }
-{}
-
-/// The law that what is authored is what is seen: a receiver that was fed any front of the words that `build` puts of an accepted
-/// cue list, cut anywhere, shows the authored grids of the last frame that it counts, wherever that is settled, and of each service
-/// the authored windows; and no service's buffer was filled.
-pub fn built_words_are_seen()
-    ensures { BuiltWordsAreSeen }
-{}
-
-/// The law that so it is seen beside packets of extended data: a receiver that was fed any front of the words that `xds` puts of an accepted
-/// cue list with good packets beside whose captions they have room, cut anywhere, shows what is authored at the last frame that it counts;
-/// and no service's buffer was filled.
-pub fn xds_words_are_seen()
-    ensures { XdsWordsAreSeen }
-{}
-
-/// The law that so it is seen where it is inserted: a receiver that was fed any front of what `insert` puts of a words file with the
-/// captions of an accepted cue list, cut anywhere, where the file's frames have the list's rate and are as many as it has, at least,
-/// shows what is authored at the last frame that it counts, behind the list's end too; and no service's buffer was filled.
-pub fn inserted_words_are_seen()
-    ensures { InsertedWordsAreSeen }
-{}
-
-/// The law that so are two lists: a receiver that was fed any front of what `dual` puts of lists that are accepted together, cut anywhere,
-/// shows at the last frame that it counts the authored grids of the first list on CC1 and CC3, and of the second on CC2 and CC4, each
-/// where the frame is settled for the channel by its own list, and of each service the first list's windows; and no service's buffer
-/// was filled.
-pub fn dual_words_are_seen()
-    ensures { DualWordsAreSeen }
-{}
-
-/// The law that what is authored is seen again where a line loses whole frames of the words that `build` puts of an accepted cue list, fewer
-/// than 65,536 in a row. A concealing receiver that was fed any front of the words of those that came, cut anywhere, has refused none of
-/// them. At the last frame that it counts it shows what is authored on each channel and in each service that is in step there. The words of
-/// all frames are those that `build` puts.
-pub fn built_words_are_seen_again()
-    ensures whole { AllFramesAreBuilt }
-    ensures unrefused { DeliveredIsUnrefused }
-    ensures seen { BuiltWordsAreSeenAgain }
-{}
-
-/// The law that `conceal` answers an input that is the words of whatever frames of an accepted cue list came, in order and with fewer than
-/// 65,536 missing in a row, with Ok, or Memory, where neither count of faults rose; and that for Ok it put the changes of the screens and
-/// windows that a concealing receiver shows of these frames, with the lines of the missing ones.
-pub fn delivered_words_are_concealed()
-    ensures { DeliveredIsConcealed }
-{}
-
-/// The law that the words that `build` puts of an accepted cue list are verified against that list: a words file within the limit,
-/// with the list's frames, at none of which anything is found.
-pub fn built_words_are_verified()
-    ensures { BuiltWordsAreVerified }
-{}
-
-/// The law that the words that `build` puts of an accepted cue list at 29.97, whose delays have at most 166 tenths, are a words file within
-/// the limit, none of whose frames has a misfit: so `convert` ends with Ok or Memory, where no count of faults rose.
-pub fn built_words_are_fit()
-    ensures { BuiltWordsAreFit }
-{}
-
-/// The law that so are the words that `xds` puts of one with good packets beside whose captions they have room.
-pub fn xds_words_are_verified()
-    ensures { XdsWordsAreVerified }
-{}
-
-/// The law that no frame knows a cue that is loaded later: what `build` puts of an accepted cue list, and of one that has further cues
-/// at its end, begins with the same words, as far as both have frames: those of all frames before the least LOAD of the further cues.
-pub fn earlier_words_stay()
-    ensures { EarlierWordsStay }
 {}

@@ -1,0 +1,9 @@
+mod CleanLemmas
+mod ConcealedLemmas
+mod ConvertedLemmas
+mod FilledLemmas
+mod SeenLemmas
+mod SeenAgainLemmas
+mod SizeLemmas
+mod VerifiedLemmas
+mod XdsSeenLemmas
