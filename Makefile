@@ -1,5 +1,5 @@
 # make demo     shows `ccsuite pairs` on a cue list within a minute, not yet proved; then does as `make`, and shows it again
-# make          proves the program and every crate below it, as the gate does, and builds it: build/ccsuite
+# make          proves the program, the laws of what it puts, and every crate below them, as the gate does, and builds it: build/ccsuite
 # make check    the gate: every proof, the must-fail edits, the tests, the program by two compilers; on a new machine from nothing, later without
 #               the proofs and edits that passed there, of crates that are as they were, with all below them
 # make edits    tries the edits of edits/ too, of each crate, which takes hours: each must be refused; with CRATE=name those of one crate
@@ -74,7 +74,7 @@ all: build/ccsuite
 build/ccsuite: $(SOURCES)
 	@$(FIND_RT)
 	@mkdir -p build
-	@docs/prove.py ccsuite $@ build/prove.log
+	@docs/prove.py ccsuite $@ build/prove.log words_laws
 
 # the plugin for GStreamer, if there are the headers for it
 GSTREAMER := $(shell pkg-config --exists gstreamer-base-1.0 2> /dev/null && echo build/libgstccsuite.so)

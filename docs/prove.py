@@ -1,10 +1,11 @@
 #!/usr/bin/env python3
-"""Proves a crate with those below it, tells how far it is, and puts what is built where it is wanted: prove.py CRATE FILE LOG
+"""Proves a crate with those below it, tells how far it is, and puts what is built where it is wanted: prove.py CRATE FILE LOG [FURTHER..]
 
-It works on a copy of these crates without their must-fail edits. A program is proved as the gate proves it, by `rt ci`, so `make check` takes from this
-machine's kept work what was proved here; the edits are left to it, since with them this takes half as long again. Before its first proof `rt ci` reads all
-crates; meanwhile those that stand on no other are proved by a run of their own, which the whole run takes from the kept work. A static library, which
-`rt ci` doesn't build, is proved by `rt all check` and built by `rt lib`. RT_JOBS crates are proved side by side; what the prover says goes to LOG.
+Further crates that are named, with those below them, are proved with it. This works on a copy of all these without their must-fail edits. A program is
+proved as the gate proves it, by `rt ci`, so `make check` takes from this machine's kept work what was proved here; the edits are left to it, since with
+them this takes half as long again. Before its first proof `rt ci` reads all crates; meanwhile those that stand on no other are proved by a run of their
+own, which the whole run takes from the kept work. A static library, which `rt ci` doesn't build, is proved by `rt all check` and built by `rt lib`.
+RT_JOBS crates are proved side by side; what the prover says goes to LOG.
 """
 
 import os
@@ -34,9 +35,9 @@ def rows_of(text):
     return {row[1]: row for row in found if row}
 
 
-def below(name, rows):
-    """A crate and those below it."""
-    found, left = set(), [name]
+def below(names, rows):
+    """Crates and those below them."""
+    found, left = set(), list(names)
     while left:
         crate = left.pop()
         if crate in rows and crate not in found:
@@ -161,11 +162,12 @@ def end(*_):
 
 
 def main():
-    name, file, log_file = sys.argv[1], pathlib.Path(sys.argv[2]).absolute(), pathlib.Path(sys.argv[3])
+    name, file, log_file, further = sys.argv[1], pathlib.Path(sys.argv[2]).absolute(), pathlib.Path(sys.argv[3]), sys.argv[4:]
     signal.signal(signal.SIGTERM, end)
     rows = rows_of((TOP / "crates.txt").read_text())
-    names, jobs = below(name, rows), int(os.environ.get("RT_JOBS") or os.cpu_count())
-    print(f"{name} and what is below it are proved, {len(names)} crates, {jobs} side by side; what the prover says goes to {log_file}", flush=True)
+    names, jobs = below([name, *further], rows), int(os.environ.get("RT_JOBS") or os.cpu_count())
+    what = ", ".join([name, *further])
+    print(f"{what} and what is below are proved, {len(names)} crates, {jobs} side by side; what the prover says goes to {log_file}", flush=True)
     with tempfile.TemporaryDirectory(prefix="ccsuite-proof-") as folder, open(log_file, "w") as log:
         room = pathlib.Path(folder).resolve()
         copy_crates(names, rows, room)
