@@ -4,6 +4,7 @@ use Rattle.command_base.proofs.ExactLemmas.{exact, told}
 use Rattle.command_base.specs.Ends.{Ends, ends}
 use Rattle.command_base.specs.Realises.{LeavesAll}
 use Rattle.command_base.specs.declared.status.Status.{Status}
+use Rattle.convert_commands.proofs.EveryLemmas.{every_convert}
 use Rattle.convert_commands.proofs.VerdictLemmas.{convert_one}
 use Rattle.cue_list_commands.proofs.ListVerdictLemmas.{build_one, cues_one, pairs_one}
 use Rattle.cue_list_commands.proofs.EveryLemmas.{every_build, every_cues, every_pairs}
@@ -24,6 +25,7 @@ use Rattle.mcc_commands.specs.ExportMcc.{start_at}
 use Rattle.scc_commands.proofs.ExportVerdictLemmas.{every_export, export_one}
 use Rattle.scc_commands.proofs.ImportVerdictLemmas.{import_one}
 use Rattle.scc_commands.proofs.ImportEveryLemmas.{every_import}
+use Rattle.verify_commands.proofs.EveryLemmas.{every_verify}
 use Rattle.verify_commands.proofs.VerdictLemmas.{verify_one}
 use Rattle.words_commands.proofs.VerdictLemmas.{changes_one, every_changes, every_show, show_one}
 use Rattle.words_commands.specs.ConcealedScreens.{concealed_changes}
@@ -58,26 +60,26 @@ verdict_one (Help page) = text_one (page_text page)
 verdict_one Version = text_one VERSION_LINE.now
 
 pub every_input : EveryInputHasVerdict
-every_input Pairs runs decided = every_pairs
-every_input Build runs decided = every_build
-every_input Cues runs decided = every_cues
-every_input Dual runs decided = every_dual
-every_input Xds runs decided = every_xds
-every_input Decode runs decided = every_changes changes_of
-every_input (Show frame) runs decided = every_show frame
-every_input Conceal runs decided = every_changes concealed_changes
-every_input XdsShow runs decided = every_changes packet_lines
-every_input Verify runs decided = absurd decided
-every_input Insert runs decided = every_insert
-every_input Convert runs decided = absurd decided
-every_input Import runs decided = every_import
-every_input (Export time) runs decided = every_export time
-every_input ImportMcc runs decided = every_import_mcc
-every_input (ExportMcc count time) runs decided = every_export_mcc (start_at count time) (starts_in_day count time runs)
-every_input (Load count) runs decided = every_load count runs.0 runs.1
-every_input (Fit late) runs decided = every_fit late runs
-every_input (Help page) runs decided = every_text (page_text page)
-every_input Version runs decided = every_text VERSION_LINE.now
+every_input Pairs runs = every_pairs
+every_input Build runs = every_build
+every_input Cues runs = every_cues
+every_input Dual runs = every_dual
+every_input Xds runs = every_xds
+every_input Decode runs = every_changes changes_of
+every_input (Show frame) runs = every_show frame
+every_input Conceal runs = every_changes concealed_changes
+every_input XdsShow runs = every_changes packet_lines
+every_input Verify runs = every_verify
+every_input Insert runs = every_insert
+every_input Convert runs = every_convert
+every_input Import runs = every_import
+every_input (Export time) runs = every_export time
+every_input ImportMcc runs = every_import_mcc
+every_input (ExportMcc count time) runs = every_export_mcc (start_at count time) (starts_in_day count time runs)
+every_input (Load count) runs = every_load count runs.0 runs.1
+every_input (Fit late) runs = every_fit late runs
+every_input (Help page) runs = every_text (page_text page)
+every_input Version runs = every_text VERSION_LINE.now
 
 pub verdict_answered : VerdictIsAnswered
 verdict_answered command aside input verdict text side later old new answer plain says side_is read is =

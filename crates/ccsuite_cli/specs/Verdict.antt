@@ -1,7 +1,7 @@
 -- Between crates: the program's answer stands on none of these definitions.
 -- The one law of exactness: of every input there is one verdict, and a run in which no count of faults rose answers it, or Memory. And where
 -- a count rose, the answer says so.
-use Rattle.std.specs.Prelude.{◌≡◌, ◌⊎◌, ℕ, List, Some, ⊤}
+use Rattle.std.specs.Prelude.{◌≡◌, ◌⊎◌, ℕ, List, Some}
 use Rattle.std.specs.Io.KnownBytes.{Keeps}
 use Rattle.command_base.specs.Counts.{IsReadOf, IsSideOf, TellsAllFaults}
 use Rattle.command_base.specs.Ends.{Ends}
@@ -13,21 +13,14 @@ use Rattle.command_base.specs.declared.status.Status.TheVariants as status
 use Rattle.ccsuite_cli.specs.Answer.{Answer, input_for, side_for, verdict_of}
 use Rattle.ccsuite_cli.specs.Command.{IsRunnable}
 use Rattle.ccsuite_cli.specs.declared.command.Command.{Command}
-use Rattle.ccsuite_cli.specs.declared.command.Command.TheVariants.{Convert, Verify}
 
 -- of bytes a command makes one status, but for faults
 abbrev pub VerdictIsOne : Type 0
 VerdictIsOne = (command : Command) → IsOne (verdict_of command)
 
--- the commands that aren't `verify` or `convert`: whether windows or grids differ behind frames isn't told here for all frames
-abbrev pub IsDecided : Command → Type 0
-IsDecided Verify = ⊥
-IsDecided Convert = ⊥
-IsDecided _ = ⊤
-
--- of all bytes they make one
+-- and of every side file and all bytes one
 abbrev pub EveryInputHasVerdict : Type 0
-EveryInputHasVerdict = (command : Command) → IsRunnable (Some command) → IsDecided command → HasVerdict (verdict_of command)
+EveryInputHasVerdict = (command : Command) → IsRunnable (Some command) → HasVerdict (verdict_of command)
 
 -- where no count of faults rose, a run answers that and has put its text, or it answers Memory and has put nothing
 abbrev pub VerdictIsAnswered : Type 0
