@@ -1,4 +1,4 @@
--- Believed: the program's answer stands on these definitions.
+-- Between crates: the program's answer stands on none of these definitions.
 -- What holds of values that may not be there.
 use Rattle.std.specs.Prelude.{Bool, false, Option, Some, None}
 

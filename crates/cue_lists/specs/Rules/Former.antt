@@ -1,4 +1,4 @@
--- Between crates: the program's answer stands on none of these definitions.
+-- Believed in part: the program's answer stands on some of these definitions.
 -- The former cue: the nearest cue before a cue on the same line 21 channel or of the same service. Cues are numbered
 -- from 1 in their order, and the cues before a cue are a list with the newest first.
 use Rattle.std.specs.Prelude.{ℕ, ◌+◌, Bool, if◌then◌else◌, List, [], ◌∷◌, length, Option, Some, None}
