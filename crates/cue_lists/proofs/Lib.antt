@@ -1,3 +1,4 @@
+pub mod CellsDenied
 pub mod ChannelCues
 pub mod ChannelKept
 pub mod ChannelRules

@@ -35,8 +35,9 @@ use Rattle.cue_lists.specs.Rules.Share.{lacks_share, share}
 use Rattle.cue_lists.specs.Rules.Tests.{other_of}
 use Rattle.cue_lists.specs.Rules.Unhidden.{leaves_unhidden, loads_before_it_hides, unhidden}
 use Rattle.cue_lists.specs.Rules.WindowBusy.{keeps_window, same_window, window_busy}
-use Rattle.cue_lists.proofs.Denials.{Denies, denied_below, denied_both, denied_each, denied_false, denied_hide, denied_le, denied_like, denied_lt, denied_ne, denied_never, denied_true, denied_where}
+use Rattle.cue_lists.proofs.Denials.{Denies, denied_below, denied_both, denied_each, denied_hide, denied_le, denied_like, denied_lt, denied_ne, denied_never, denied_true, denied_where}
 use Rattle.cue_lists.proofs.FirstFailing.{first_found, found_first, nearest_first, none_nearest}
+use Rattle.cue_lists.proofs.CellsDenied.{cells_denied}
 use Rattle.cue_lists.proofs.RuleTests.{equal_itself}
 
 -- a verdict on a rule: none where the cue keeps it, else whom it breaks it against
@@ -98,6 +99,55 @@ all_asked : (cues : List Cue) → AllByRecursion (λ (other : Cue). ⊤) cues
 all_asked [] = tt
 all_asked (cue ∷ cues) = (tt, all_asked cues)
 
+-- a sentence on the cues of channels, and one on those of services
+on_channel : (k : Kind) (P : Type 0) → (is_line21 k ≡ true → P) → (channel : Chan) → kind_lane k ≡ lane.Channel channel → P
+on_channel (kind.Pop own) P all channel is = all refl
+on_channel (kind.Paint own) P all channel is = all refl
+on_channel (kind.Roll own rows) P all channel is = all refl
+on_channel (kind.Win window) P all channel is = cc
+
+from_channel : (k : Kind) (P : Type 0) → ((channel : Chan) → kind_lane k ≡ lane.Channel channel → P) → is_line21 k ≡ true → P
+from_channel (kind.Pop own) P all is = all own refl
+from_channel (kind.Paint own) P all is = all own refl
+from_channel (kind.Roll own rows) P all is = all own refl
+from_channel (kind.Win window) P all is = cc
+
+of_service : (k : Kind) (P : Type 0) → (is_win k ≡ true → P) → (service : ℕ) → kind_lane k ≡ lane.Service service → P
+of_service (kind.Win window) P all service is = all refl
+of_service _ P all service is = cc
+
+from_service : (k : Kind) (P : Type 0) → ((service : ℕ) → kind_lane k ≡ lane.Service service → P) → is_win k ≡ true → P
+from_service (kind.Win window) P all is = all window.service refl
+from_service _ P all is = cc
+
+denied_on_channel : {P : Type 0} (k : Kind) (b : Bool) → Denies b P
+    → Denies (is_line21 k && b) ((channel : Chan) → kind_lane k ≡ lane.Channel channel → P)
+denied_on_channel {P} k b d = denied_like _ (denied_where (is_line21 k) b d) (on_channel k P) (from_channel k P)
+
+denied_of_service : {P : Type 0} (k : Kind) (b : Bool) → Denies b P
+    → Denies (is_win k && b) ((service : ℕ) → kind_lane k ≡ lane.Service service → P)
+denied_of_service {P} k b d = denied_like _ (denied_where (is_win k) b d) (of_service k P) (from_service k P)
+
+-- a paint-on or roll-up cue is one of a channel that isn't pop-on
+written_on : (k : Kind) (P : Type 0) → ((is_paint k || is_roll k) ≡ true → P)
+    → (channel : Chan) → kind_lane k ≡ lane.Channel channel → is_pop k ≡ false → P
+written_on (kind.Pop own) P all channel is other = cc
+written_on (kind.Paint own) P all channel is other = all refl
+written_on (kind.Roll own rows) P all channel is other = all refl
+written_on (kind.Win window) P all channel is other = cc
+
+on_written : (k : Kind) (P : Type 0) → ((channel : Chan) → kind_lane k ≡ lane.Channel channel → is_pop k ≡ false → P)
+    → (is_paint k || is_roll k) ≡ true → P
+on_written (kind.Pop own) P all is = cc
+on_written (kind.Paint own) P all is = all own refl refl
+on_written (kind.Roll own rows) P all is = all own refl refl
+on_written (kind.Win window) P all is = cc
+
+-- a sentence on a HIDE in other words
+hidden_like : (hide : Option ℕ) (P : Type 0) (Q R : ℕ → Type 0) → ((n : ℕ) → Q n → R n) → MatchOption hide P Q → MatchOption hide P R
+hidden_like None P Q R like is = is
+hidden_like (Some hide) P Q R like is = like hide is
+
 -- several tests as one
 five_as_two : (a b c : Bool) (former : Option Cue) (t u : Cue → Bool)
     → first_broken (alone (a || (b || c)) ∷ with_former former (λ other. t other || u other) ∷ [])
@@ -149,8 +199,8 @@ module _ (list : Listing) (earlier : List Cue) (cue : Cue) where
       → Denies (loads_before_it_shows cue former || loads_before_it_loads cue former) (IsKeptWithFormer why.Order list former cue)
   order_former former =
       denied_both (loads_before_it_shows cue former) (loads_before_it_loads cue former)
-      (denied_where (is_line21 cue.kind) _ (denied_le former.show cue.load))
-      (denied_where (is_win cue.kind) _ (denied_le former.load cue.load))
+      (denied_on_channel cue.kind _ (denied_le former.show cue.load))
+      (denied_of_service cue.kind _ (denied_le former.load cue.load))
 
   pub order_told : IsJudged list earlier cue why.Order (first_broken (order list.rate cue (former_cue cue earlier)))
   order_told =
@@ -164,8 +214,8 @@ module _ (list : Listing) (earlier : List Cue) (cue : Cue) where
   pub overlap_told : IsJudged list earlier cue why.Overlap (first_broken (overlap cue (former_cue cue earlier)))
   overlap_told =
       judged_by_former list earlier cue why.Overlap (have_shared_cell cue.runs) (shows_before_it_hides cue)
-      (denied_false (have_shared_cell cue.runs))
-      (λ former. denied_where (is_line21 cue.kind) _
+      (cells_denied cue.runs)
+      (λ former. denied_on_channel cue.kind _
       (denied_hide former.hide (λ hide. nat_lt cue.show hide) (λ hide. hide ≤ cue.show) (λ hide. denied_le hide cue.show)))
       (all_asked earlier)
 
@@ -226,8 +276,12 @@ unhidden_told list earlier cue =
     (two_former (former_cue cue earlier) (loads_before_it_hides cue) (leaves_unhidden cue))
     (judged_by_former list earlier cue why.Unhidden false (λ former. loads_before_it_hides cue former || leaves_unhidden cue former)
     denied_never
-    (λ former. unhidden_former (is_paint cue.kind) (is_roll cue.kind) (same_roll cue.kind former.kind)
-    (base_row cue.runs == base_row former.runs) former.hide cue.load)
+    (λ former.
+    denied_like _
+    (unhidden_former (is_paint cue.kind) (is_roll cue.kind) (same_roll cue.kind former.kind) (base_row cue.runs == base_row former.runs)
+    former.hide cue.load)
+    (hidden_like former.hide _ _ _ (λ hide. written_on cue.kind (hide ≤ cue.load)))
+    (hidden_like former.hide _ _ _ (λ hide. on_written cue.kind (hide ≤ cue.load))))
     (all_asked earlier))
 
 -- WindowBusy: two cues of one window
@@ -376,11 +430,14 @@ past_end_alone list cue =
     (λ hide. denied_le (hide + slot_step list.rate + 1) list.frames)))
     (denied_both _ _
     (denied_where (is_line21 cue.kind && is_none cue.hide) _ (denied_lt cue.show list.frames))
-    (denied_where (is_win cue.kind) _
+    (denied_of_service cue.kind _
     (denied_hide cue.hide (λ hide. nat_le list.frames hide) (λ hide. hide < list.frames) (λ hide. denied_lt hide list.frames)))))
-    (λ p. (end_there (is_line21 cue.kind) cue.hide (cue.show < list.frames) (λ hide. hide + slot_step list.rate + 1 ≤ list.frames) p.0 p.1.0, p.1.1))
+    (λ p. (
+      on_channel cue.kind _ (end_there (is_line21 cue.kind) cue.hide (cue.show < list.frames) (λ hide. hide + slot_step list.rate + 1 ≤ list.frames) p.0 p.1.0),
+      p.1.1,
+    ))
     (λ p.
-    let back = end_back (is_line21 cue.kind) cue.hide (cue.show < list.frames) (λ hide. hide + slot_step list.rate + 1 ≤ list.frames) p.0 in
+    let back = end_back (is_line21 cue.kind) cue.hide (cue.show < list.frames) (λ hide. hide + slot_step list.rate + 1 ≤ list.frames) (from_channel cue.kind _ p.0) in
     (back.0, (back.1, p.1)))
 
 pub past_end_told : (list : Listing) (earlier : List Cue) (cue : Cue)

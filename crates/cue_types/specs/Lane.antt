@@ -1,4 +1,4 @@
--- Believed: the program's answer stands on these definitions.
+-- Believed in part: the program's answer stands on some of these definitions.
 -- Lanes: what a cue is sent on, a line 21 channel or a service.
 use Rattle.std.specs.Prelude.{ℕ, ◌==◌, Bool, true, false}
 use Rattle.line21_codes.specs.declared.channels.Chan.{Chan}

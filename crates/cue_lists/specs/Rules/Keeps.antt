@@ -1,17 +1,17 @@
 -- Believed: the program's answer stands on these definitions.
 -- The nine rules of a cue list: what each asks of a cue by itself, of a cue and its former one, and of a cue and each before it; what
 -- it is to keep a rule, and which cue a broken rule names. The cues before a cue are a list with the newest first.
-use Rattle.std.specs.Prelude.{◌≡◌, ◌≢◌, ◌⊎◌, ⊤, ℕ, ◌+◌, ◌*◌, ◌<◌, ◌≤◌, ◌||◌, true, false, List, [], ◌∷◌, length, Option, Some, None, IfSome, IsSome, MatchOption}
-use Rattle.std.specs.List.{AllByRecursion}
+use Rattle.std.specs.Prelude.{◌≡◌, ◌≢◌, ◌⊎◌, ⊤, ℕ, ◌+◌, ◌*◌, ◌<◌, ◌≤◌, true, false, List, [], ◌∷◌, length, Option, Some, None, IfSome, IsSome, MatchOption}
+use Rattle.std.specs.List.{AllByRecursion, AllPairs}
 use Rattle.cc_base.specs.Rate.{delay_frames_of}
 use Rattle.cc_base.specs.declared.why.Why.{Why}
 use Rattle.cc_base.specs.declared.why.Why.TheVariants as why
 use Rattle.line21_codes.specs.declared.channels.Chan.{Chan}
 use Rattle.line21_slots.specs.Cadences.{cadence_of, has_slot_in, slot_step}
 use Rattle.cue_form.specs.FirstFailing.{IsFirstFailing}
-use Rattle.cue_types.specs.Cells.{have_shared_cell}
+use Rattle.cue_types.specs.Cells.{covers}
 use Rattle.cue_types.specs.Channels.{uses_window}
-use Rattle.cue_types.specs.Lane.{is_line21, is_paint, is_pop, is_roll, is_win, kind_lane, on_lane}
+use Rattle.cue_types.specs.Lane.{is_pop, kind_lane, same_lane}
 use Rattle.cue_types.specs.Line21Cues.{continues}
 use Rattle.cue_types.specs.Listing.{Listing, share_of}
 use Rattle.cue_types.specs.declared.cue.Cue.{Cue}
@@ -43,12 +43,17 @@ abbrev pub IsKeptAlone : Why → Listing → Cue → Type 0
 IsKeptAlone why.Order list cue =
     (cue.load < cue.show) × IfSome cue.hide (λ hide. cue.show < hide)
     × (0 < delay_of cue.kind → cue.load + delay_frames_of list.rate (delay_of cue.kind) < cue.show)
-IsKeptAlone why.Overlap list cue = have_shared_cell cue.runs ≡ false
+IsKeptAlone why.Overlap list cue =
+    AllPairs (λ a b. (row column : ℕ) → covers a row column ≡ true → covers b row column ≡ true → ⊥)
+    cue.runs
 IsKeptAlone why.Clash list cue = is_pop cue.kind ≡ true → IfSome cue.hide (λ hide. cue.show + 2 * slot_step list.rate ≤ hide)
 IsKeptAlone why.Share list cue = (service : ℕ) → kind_lane cue.kind ≡ lane.Service service → IsSome (share_of list service)
 IsKeptAlone why.PastEnd list cue =
-    (is_line21 cue.kind ≡ true → MatchOption cue.hide (cue.show < list.frames) (λ hide. hide + slot_step list.rate + 1 ≤ list.frames))
-    × (is_win cue.kind ≡ true → IfSome cue.hide (λ hide. hide < list.frames))
+    ((channel : Chan) → kind_lane cue.kind ≡ lane.Channel channel
+    → MatchOption cue.hide (cue.show < list.frames)
+    (λ hide. hide + slot_step list.rate + 1 ≤ list.frames))
+    × ((service : ℕ) → kind_lane cue.kind ≡ lane.Service service
+    → IfSome cue.hide (λ hide. hide < list.frames))
 IsKeptAlone why.OffSlot list cue =
     (channel : Chan) → kind_lane cue.kind ≡ lane.Channel channel → (has_slot_in (cadence_of list.rate channel) cue.show ≡ true)
     × IfSome cue.hide (λ hide. has_slot_in (cadence_of list.rate channel) hide ≡ true)
@@ -62,12 +67,17 @@ IsKeptAlone _ list cue = ⊤
 -- empty, the cue continues it
 abbrev pub IsKeptWithFormer : Why → Listing → Cue → Cue → Type 0
 IsKeptWithFormer why.Order list former cue =
-    (is_line21 cue.kind ≡ true → former.show ≤ cue.load) × (is_win cue.kind ≡ true → former.load ≤ cue.load)
-IsKeptWithFormer why.Overlap list former cue = is_line21 cue.kind ≡ true → IfSome former.hide (λ hide. hide ≤ cue.show)
+    ((channel : Chan) → kind_lane cue.kind ≡ lane.Channel channel → former.show ≤ cue.load)
+    × ((service : ℕ) → kind_lane cue.kind ≡ lane.Service service → former.load ≤ cue.load)
+IsKeptWithFormer why.Overlap list former cue =
+    (channel : Chan) → kind_lane cue.kind ≡ lane.Channel channel
+    → IfSome former.hide (λ hide. hide ≤ cue.show)
 IsKeptWithFormer why.Clash list former cue =
     is_pop cue.kind ≡ true → IfSome former.hide (λ hide. hide < cue.show → hide + 2 * slot_step list.rate ≤ cue.show)
 IsKeptWithFormer why.Unhidden list former cue =
-    MatchOption former.hide (continues cue former ≡ true) (λ hide. (is_paint cue.kind || is_roll cue.kind) ≡ true → hide ≤ cue.load)
+    MatchOption former.hide (continues cue former ≡ true)
+    (λ hide. (channel : Chan) → kind_lane cue.kind ≡ lane.Channel channel → is_pop cue.kind ≡ false
+    → hide ≤ cue.load)
 IsKeptWithFormer _ list former cue = ⊤
 
 -- what a rule asks of a cue and each one before it
@@ -86,7 +96,9 @@ IsKeptWithEach _ list earlier cue = ⊤
 
 -- the former cue: the nearest one before the cue on its lane, the same channel or service
 abbrev pub IsFormer : List Cue → Cue → Cue → Type 0
-IsFormer earlier cue former = IsFirstFailing (λ (other : Cue). on_lane (kind_lane cue.kind) other ≡ false) earlier former
+IsFormer earlier cue former =
+    IsFirstFailing (λ (other : Cue). same_lane (kind_lane cue.kind) (kind_lane other.kind) ≡ false)
+    earlier former
 
 -- a cue keeps a rule after these cues
 pub record KeepsRule (list : Listing) (earlier : List Cue) (cue : Cue) (rule : Why) : Type 0 where
