@@ -9,7 +9,9 @@ use Rattle.cc_receiver.specs.Receivers.{HasReceived}
 use Rattle.command_base.specs.Ends.{Ends, IsSteady, ends}
 use Rattle.command_base.specs.declared.status.Status.{Status}
 use Rattle.command_base.specs.declared.status.Status.TheVariants as status
-use Rattle.scc_files.specs.Writing.{end_text, head_text, standing_of}
+use Rattle.scc_files.specs.Pieces.{stand_after}
+use Rattle.scc_files.specs.Writing.{end_text, standing_of}
+use Rattle.scc_files.specs.Written.{head_text}
 use Rattle.scc_files.specs.declared.writer.SccWriter.{SccWriter}
 use Rattle.services_files.specs.CaptionChannel.{caption_channel}
 use Rattle.time_codes.specs.declared.time_code.TimeCode.{TimeCode}
@@ -23,12 +25,13 @@ use Rattle.words_reading.proofs.FrameLemmas.{nothing_judged}
 use Rattle.words_reading.proofs.PieceLemmas.{nothing_taken}
 use Rattle.words_reading.specs.Causes.{IsWholeFile}
 use Rattle.words_reading.specs.FramesRead.{HasJudgedFrames, receiver_of}
+use Rattle.words_reading.specs.FrameTexts.{FramesSay}
 use Rattle.words_reading.specs.Reading.{Stops, StopsEarly as Stopped}
 use Rattle.words_reading.specs.Statuses.{stop_status}
 use Rattle.words_reading.specs.declared.frames.Frames.{Frames}
 use Rattle.words_reading.specs.declared.judge.Stop.{Stop}
-use Rattle.scc_commands.specs.Export.{AreExported, ExportEnd, ExportHalts, ExportVerdict, IsExportOf, export_file, export_front, exported, first_standing, stand_after}
-use Rattle.scc_commands.specs.Exporting.{StandsBehind, reason_status}
+use Rattle.scc_commands.specs.Export.{AreExported, ExportHalts, ExportVerdict, export_file, export_front, exported}
+use Rattle.scc_commands.specs.Exporting.{ExportEnd, IsExportOf, StandsBehind, first_standing, reason_status}
 use Rattle.scc_commands.specs.declared.exporting.ExportStop.{ExportStop}
 use Rattle.scc_commands.specs.declared.exporting.ExportStop.TheVariants as reason
 use Rattle.scc_commands.specs.declared.exporting.Exporting.{Exporting}
@@ -45,8 +48,8 @@ nothing_exported time reading writer received is stands =
     nothing_judged (export_front time) (StandsBehind time) head_text reading received
     (record { are_exported = none_exported time; writer = ap (λ (m : Exporting). standing_of m.writer) is ∙ stands }) (sym (append-nil head_text))
 
-stays : (time : TimeCode) (judged more text : List ℕ) (refusal : Refusal) → FirstOffendingWord caption_channel judged refusal → IsExportOf time export_front judged text
-    → IsExportOf time export_front (judged ++ more) text
+stays : (time : TimeCode) (judged more text : List ℕ) (refusal : Refusal) → FirstOffendingWord caption_channel judged refusal → IsExportOf time judged text
+    → IsExportOf time (judged ++ more) text
 stays time = frames_stay (export_front time) (AreExported time)
 
 abbrev Halts : TimeCode → ExportStop → List ℕ → List ℕ → Type 0
@@ -56,7 +59,7 @@ Halts time why = ExportHalts time (reason_status why)
 pub head_failed : (time : TimeCode) (first start then : Option (List ℕ)) (reads writes still : ℕ) → Puts start then put.Failed head_text → Rose writes still
     → RealisesLeaving (ExportVerdict time) (ends first reads start writes) (ends first reads then still) status.WriteFault
 head_failed time first start then reads writes still failed rose =
-    failed_realised (IsExportOf time export_front) (ExportEnd time) (ExportHalts time) (stays time) (Halts time) reason_status (λ why bytes text halts. halts)
+    failed_realised (IsExportOf time) (ExportEnd time) (ExportHalts time) (stays time) (Halts time) reason_status (λ why bytes text halts. halts)
     (ends first reads start writes) (ends first reads then still) refl rose
     (record {
       judged = [];
@@ -69,9 +72,13 @@ head_failed time first start then reads writes still failed rose =
       output = failed;
     })
 
+-- the bytes bring frames that are exported, and this is their whole file
+abbrev IsFileOfExport : TimeCode → List ℕ → List ℕ → Type 0
+IsFileOfExport time = FramesSay (export_file time) (AreExported time)
+
 -- a reading that stopped before the end of the file
 abbrev HasStopped : TimeCode → Ends → Ends → Stop ExportStop → Type 0
-HasStopped time old new why = Stopped (IsExportOf time export_front) (Halts time) old new why
+HasStopped time old new why = Stopped (IsExportOf time) (Halts time) old new why
 
 is_plain : (why : ExportStop) → IsPlain (reason_status why)
 is_plain (reason.Found finding) = tt
@@ -83,7 +90,7 @@ pub export_stopped : (time : TimeCode) (first left start now : Option (List ℕ)
     → RealisesLeaving (ExportVerdict time) (ends first reads start writes) (ends left later now still) answer
 export_stopped time first left start now reads later writes began still why answer same stops is =
     subst (λ n. RealisesLeaving (ExportVerdict time) (ends first reads start n) (ends left later now still) answer) same
-    (stopped_realised (IsExportOf time export_front) (ExportEnd time) (ExportHalts time) (stays time) (Halts time) reason_status (λ why bytes text halts. halts) is_plain
+    (stopped_realised (IsExportOf time) (ExportEnd time) (ExportHalts time) (stays time) (Halts time) reason_status (λ why bytes text halts. halts) is_plain
     (ends first reads start began) (ends left later now still) why answer stops is)
 
 -- the words were read to their end
@@ -94,7 +101,7 @@ HasEnded time reading old new =
 -- and the end of the SCC file was put, or a front of it
 end_put : (time : TimeCode) (reading : Frames Exporting) (first left start now then : Option (List ℕ)) (reads later writes began still last : ℕ) (ending : List ℕ) (answer : Put)
     → HasEnded time reading (ends first reads start began) (ends left later now still) → ending ≡ end_text reading.maker.writer.behind → Puts now then answer ending
-    → Stops (IsExportOf time export_file) (IsWholeFile first) answer (ends first reads start writes) (ends left later then last)
+    → Stops (IsFileOfExport time) (IsWholeFile first) answer (ends first reads start writes) (ends left later then last)
 end_put time reading first left start now then reads later writes began still last ending answer (steady, stops) is line =
     let had = stops.says in
     let ends_so : ending ≡ end_text (stand_after (first_standing time) (exported had.frames)).behind = is ∙ ap (λ w. end_text w.behind) had.stands.writer in
@@ -118,7 +125,7 @@ pub export_done : (time : TimeCode) (reading : Frames Exporting) (first left sta
     → began ≡ writes → HasEnded time reading (ends first reads start began) (ends left later now still) → ending ≡ end_text reading.maker.writer.behind
     → Puts now then put.Done ending → last ≡ still → RealisesLeaving (ExportVerdict time) (ends first reads start writes) (ends left later then last) status.Ok
 export_done time reading first left start now then reads later writes began still last ending began_is ended is line same =
-    whole_realised (ExportEnd time) (IsExportOf time export_front) (ExportHalts time) (IsExportOf time export_file) (said_of (export_file time) (AreExported time))
+    whole_realised (ExportEnd time) (IsExportOf time) (ExportHalts time) (IsFileOfExport time) (said_of (export_file time) (AreExported time))
     (ends first reads start writes) (ends left later then last) (
       record { reads = ended.0.reads; writes = same ∙ ended.0.writes ∙ began_is },
       end_put time reading first left start now then reads later writes began still last ending put.Done ended is line,
@@ -128,7 +135,7 @@ pub export_unwritten : (time : TimeCode) (reading : Frames Exporting) (first lef
     → began ≡ writes → HasEnded time reading (ends first reads start began) (ends left later now still) → ending ≡ end_text reading.maker.writer.behind
     → Puts now then put.Failed ending → Rose still last → RealisesLeaving (ExportVerdict time) (ends first reads start writes) (ends left later then last) status.WriteFault
 export_unwritten time reading first left start now then reads later writes began still last ending began_is ended is line rose =
-    unwritten_realised (ExportEnd time) (IsExportOf time export_front) (ExportHalts time) (IsExportOf time export_file) (said_of (export_file time) (AreExported time))
+    unwritten_realised (ExportEnd time) (IsExportOf time) (ExportHalts time) (IsFileOfExport time) (said_of (export_file time) (AreExported time))
     (ends first reads start writes) (ends left later then last)
     ended.0.reads (subst (λ n. Rose n last) (ended.0.writes ∙ began_is) rose)
     (end_put time reading first left start now then reads later writes began still last ending put.Failed ended is line)

@@ -18,12 +18,12 @@ use Rattle.command_base.specs.declared.status.Status.{Status}
 use Rattle.command_base.specs.declared.status.Status.TheVariants as status
 use Rattle.findings.specs.declared.finding.Kind45.{Kind45}
 use Rattle.findings.specs.declared.finding.Kind45.TheVariants as kind
-use Rattle.scc_files.specs.Writing.{is_past_day}
 use Rattle.time_codes.specs.declared.time_code.TimeCode.{TimeCode}
 use Rattle.words_files.specs.FramesOf.{AreFramesOf}
 use Rattle.services_files.specs.CaptionChannel.{caption_channel}
-use Rattle.scc_commands.specs.Export.{AreExported, ExportEnd, ExportHalts, ExportVerdict, HasFinding, HasNoFinding, IsExportOf, StandsPastDay, StopsAtFrame, export_file, export_front, exported_from, first_standing, pairs_of}
-use Rattle.scc_commands.proofs.WrittenLemmas.{AreWithinDay, HaveNoFinding, at_number, exported_more, one_pair}
+use Rattle.scc_commands.specs.Export.{AreExported, ExportHalts, ExportVerdict, HasFinding, HasNoFinding, StopsAtFrame, export_file, export_front, exported_from, pairs_of}
+use Rattle.scc_commands.specs.Exporting.{ExportEnd, IsExportOf, first_standing}
+use Rattle.scc_commands.proofs.WrittenLemmas.{AreWithinDay, HaveNoFinding, at_number, exported_more, one_pair, passes_day}
 use Rattle.scc_commands.specs.Import.{PlacedPairs}
 
 -- within the day, in front and behind
@@ -61,11 +61,11 @@ not_found frame (kind.TwoPairs seen) none finding = let one = none.one in let mo
 not_found frame _ none finding = absurd finding
 
 -- frames with one at which an export stops aren't exported
-day_ends : (time : TimeCode) (frames more : List Frame) (last : Frame) → StandsPastDay time (length frames) last → AreExported time ((frames ++ last ∷ []) ++ more) → ⊥
+day_ends : (time : TimeCode) (frames more : List Frame) (last : Frame) → StopsAtFrame time (length frames) last (status.Limit limit.Day) → AreExported time ((frames ++ last ∷ []) ++ more) → ⊥
 day_ends time frames more last stands good =
     let within = within_at time 0 frames last more good.within_day in
-    let one = subst (λ l. AreWithinDay time (at_number (0 + length frames) l)) stands.is_pair within in
-    let isnt : true ≡ false = sym stands.past ∙ ap (λ n. is_past_day (first_standing time) n stands.pair) (none (length frames)) ∙ one.0 in cc
+    let one = subst (λ l. AreWithinDay time (at_number (0 + length frames) l)) stands.2 within in
+    let isnt : true ≡ false = sym stands.3 ∙ ap (λ n. passes_day (first_standing time) n stands.1) (none (length frames)) ∙ one.0 in cc
   where
     none : (n : ℕ) → n ≡ 0 + n
     none n = omega arith
@@ -93,8 +93,8 @@ stop_once time number frame (status.Differs a) (status.Differs b) has also = ap 
   where
     same_finding : (x y : Finding) → x.frame ≡ y.frame → x.kind ≡ y.kind → x ≡ y
     same_finding x y at found = rw (at, found) refl
-stop_once time number frame (status.Differs a) (status.Limit limit.Day) has also = absurd (not_found frame a.kind also.no_finding has.1)
-stop_once time number frame (status.Limit limit.Day) (status.Differs b) has also = absurd (not_found frame b.kind has.no_finding also.1)
+stop_once time number frame (status.Differs a) (status.Limit limit.Day) has also = absurd (not_found frame a.kind also.0 has.1)
+stop_once time number frame (status.Limit limit.Day) (status.Differs b) has also = absurd (not_found frame b.kind has.0 also.1)
 stop_once time number frame (status.Limit limit.Day) (status.Limit limit.Day) has also = refl
 stop_once time number frame (status.Differs a) (status.Limit _) has also = absurd also
 stop_once time number frame (status.Differs a) _ has also = absurd also
@@ -115,7 +115,7 @@ pub export_one : (time : TimeCode) → IsOne (λ aside. ExportVerdict time)
 export_one time aside =
     frames_one (AreExported time) (Reason time) (λ answer frames behind last. not_exported time frames behind last answer)
     (λ frames last. stop_once time (length frames) last)
-    (ExportEnd time) (IsExportOf time export_front) (ExportHalts time)
+    (ExportEnd time) (IsExportOf time) (ExportHalts time)
     (λ answer input text ends. (export_ends time answer input text ends).1)
     (λ input one other text more first next. (export_ends time one input text first).0 ∙ sym (export_ends time other input more next).0)
     (said_fit (export_front time) (AreExported time))
@@ -139,14 +139,14 @@ decides : (time : TimeCode) (earlier : List Frame) (last : Frame) → AreExporte
     → AreExported time (earlier ++ last ∷ []) ⊎ ((answer : Status) × Reason time answer earlier last)
 decides time earlier last fit = by_rate (right_or_wrong last.rate)
   where
-    by_day : HasNoFinding last → (pair : Pair) → pairs_of last ≡ pair ∷ [] → (test : Bool) → is_past_day (first_standing time) (length earlier) pair ≡ test → Decided time earlier last
-    by_day none pair one true past = inr (status.Limit limit.Day, record { no_finding = none; pair = pair; is_pair = one; past = past })
+    by_day : HasNoFinding last → (pair : Pair) → pairs_of last ≡ pair ∷ [] → (test : Bool) → passes_day (first_standing time) (length earlier) pair ≡ test → Decided time earlier last
+    by_day none pair one true past = inr (status.Limit limit.Day, (none, pair, one, past))
     by_day none pair one false within = inl (exported_more time earlier last (pair ∷ []) one none (within, tt) fit)
 
     by_pairs : HasNoFinding last → (pairs : List Pair) → pairs_of last ≡ pairs → Decided time earlier last
     by_pairs none [] is = inl (exported_more time earlier last [] is none tt fit)
     by_pairs none (pair ∷ rest) is =
-        by_day none pair (one_pair (pairs_of last) pair rest is none.one) (is_past_day (first_standing time) (length earlier) pair) refl
+        by_day none pair (one_pair (pairs_of last) pair rest is none.one) (passes_day (first_standing time) (length earlier) pair) refl
 
     by_count : last.rate ≡ rate.F2997 → (1 < length (pairs_of last)) ⊎ (length (pairs_of last) ≤ 1) → Decided time earlier last
     by_count right (inr few) = by_pairs (record { rate_is = right; one = few }) (pairs_of last) refl
@@ -164,7 +164,7 @@ plain_stop time number frame status.WriteFault stops fault = stops
 plain_stop time number frame _ stops fault = fault
 
 judges : (time : TimeCode) (bytes : List ℕ) (frames : List Frame) → AreFramesOf caption_channel frames bytes
-    → IsSaid (ExportEnd time) (IsExportOf time export_front) (ExportHalts time) bytes ⊎ HaltsIn (ExportEnd time) (IsExportOf time export_front) (ExportHalts time) bytes
+    → IsSaid (ExportEnd time) (IsExportOf time) (ExportHalts time) bytes ⊎ HaltsIn (ExportEnd time) (IsExportOf time) (ExportHalts time) bytes
 judges time bytes frames are =
     elim (frames_judged (AreExported time) (Reason time) (record { no_finding = tt; within_day = tt }) (decides time) (export_front time) bytes frames are) [
       | inl fit ↦ inl (export_front time frames, record { frames = frames; frames_are = are; fit = fit; text_is = refl })
@@ -174,7 +174,7 @@ judges time bytes frames are =
 
 pub every_export : (time : TimeCode) → HasVerdict (λ aside. ExportVerdict time)
 every_export time =
-    every_words (ExportEnd time) (IsExportOf time export_front) (ExportHalts time) (judges time)
+    every_words (ExportEnd time) (IsExportOf time) (ExportHalts time) (judges time)
     (λ input text frames file says.
     let (others, another, both) = said_of (export_front time) (AreExported time) frames input text file says in
     (status.Ok, export_file time others, λ fault. fault, (others, another, (both.0, refl))))

@@ -2,15 +2,18 @@
 use Rattle.std.proofs.Common.{◌≡◌, ◌∙◌, ◌++◌, ap, append-nil, subst, sym, ℕ, List, [], ◌∷◌, length, Option, Some, None}
 use Rattle.cc_base.specs.Streams.{Puts}
 use Rattle.cc_base.specs.declared.streams.Put.TheVariants as put
+use Rattle.cc_base.specs.declared.limit_of.LimitOf.TheVariants as limit
 use Rattle.cdp_packets.specs.Packets.{Frame}
+use Rattle.command_base.specs.declared.status.Status.TheVariants as status
 use Rattle.text_output.specs.Gathered.{Gathers, IsGathered}
 use Rattle.line21_codes.specs.declared.pairs.Pair.{Pair}
-use Rattle.scc_files.specs.Writing.{GivesPiece, Standing, is_past_day, piece_of, stand_behind, standing_of}
+use Rattle.scc_files.specs.Pieces.{stand_after}
+use Rattle.scc_files.specs.Writing.{GivesPiece, Standing, piece_of, stand_behind, standing_of}
 use Rattle.time_codes.specs.declared.time_code.TimeCode.{TimeCode}
-use Rattle.scc_commands.specs.Export.{AreExported, HasNoFinding, StandsPastDay, export_front, exported, first_standing, pairs_of, stand_after}
-use Rattle.scc_commands.specs.Exporting.{StandsBehind}
+use Rattle.scc_commands.specs.Export.{AreExported, HasNoFinding, StopsAtFrame, export_front, exported, pairs_of}
+use Rattle.scc_commands.specs.Exporting.{StandsBehind, first_standing}
 use Rattle.scc_commands.specs.declared.exporting.Exporting.{Exporting}
-use Rattle.scc_commands.proofs.WrittenLemmas.{exported_more, front_more, gathered_failed, gathered_more, past_is, stand_frame}
+use Rattle.scc_commands.proofs.WrittenLemmas.{exported_more, front_more, gathered_failed, gathered_more, passes_day, past_is, stand_frame}
 
 -- a frame without a pair
 pub frame_silent : (time : TimeCode) (start now : Option (List ℕ)) (held : List ℕ) (frames : List Frame) (last : Frame) (export : Exporting)
@@ -36,10 +39,10 @@ piece_is time frames last pair w frame piece is stands number given =
 
 -- it stands within the day
 day_is : (time : TimeCode) (frames : List Frame) (pair : Pair) (w : Standing) (frame : ℕ) → w ≡ stand_after (first_standing time) (exported frames)
-    → frame ≡ length frames → is_past_day (first_standing time) (length frames) pair ≡ is_past_day w frame pair
+    → frame ≡ length frames → passes_day (first_standing time) (length frames) pair ≡ passes_day w frame pair
 day_is time frames pair w frame stands number =
     sym (past_is time (exported frames) (length frames) pair)
-    ∙ ap (λ v. is_past_day v (length frames) pair) (sym stands) ∙ ap (λ n. is_past_day w n pair) (sym number)
+    ∙ ap (λ v. passes_day v (length frames) pair) (sym stands) ∙ ap (λ n. passes_day w n pair) (sym number)
 
 -- its pair was written
 pub frame_written : (time : TimeCode) (start now then : Option (List ℕ)) (before after : List ℕ) (frames : List Frame) (last : Frame) (old new : Exporting) (pair : Pair)
@@ -72,6 +75,6 @@ frame_unwritten time start now then before frames last old new pair frame piece 
 -- or it stands past the day
 pub frame_past : (time : TimeCode) (frames : List Frame) (last : Frame) (old new : Exporting) (pair : Pair) (frame : ℕ) → HasNoFinding last → pairs_of last ≡ pair ∷ []
     → StandsBehind time frames old → frame ≡ length frames → GivesPiece (standing_of old.writer) (standing_of new.writer) frame pair None
-    → StandsPastDay time (length frames) last
+    → StopsAtFrame time (length frames) last (status.Limit limit.Day)
 frame_past time frames last old new pair frame none is stands number (past, same) =
-    record { no_finding = none; pair = pair; is_pair = is; past = day_is time frames pair (standing_of old.writer) frame stands.writer number ∙ past }
+    (none, pair, is, day_is time frames pair (standing_of old.writer) frame stands.writer number ∙ past)

@@ -10,11 +10,14 @@ use Rattle.line21_codes.specs.declared.pairs.Pair.{Pair}
 use Rattle.line21_codes.specs.NullPairs.{null_pair}
 use Rattle.scc_files.specs.Reading.{frames_of, frames_to}
 use Rattle.scc_files.specs.SccFiles.{AreBytes, AreRising}
-use Rattle.scc_files.specs.Writing.{Standing, head_text, piece_of, stand_behind}
-use Rattle.scc_files.specs.Written.{text_from, written_file}
+use Rattle.scc_files.proofs.PiecesLemmas.{text_written}
+use Rattle.scc_files.specs.Pieces.{text_from}
+use Rattle.scc_files.specs.Writing.{Standing, piece_of, stand_behind}
+use Rattle.scc_files.specs.Written.{head_text, written_file}
 use Rattle.time_codes.specs.Frames.{frame_number}
 use Rattle.time_codes.specs.declared.time_code.TimeCode.{TimeCode}
-use Rattle.scc_commands.specs.Export.{export_file, exported_from, first_standing}
+use Rattle.scc_commands.specs.Export.{export_file, exported_from}
+use Rattle.scc_commands.specs.Exporting.{first_standing}
 use Rattle.scc_commands.proofs.WrittenLemmas.{at_number}
 use Rattle.scc_commands.specs.Import.{PlacedPairs, import_columns, import_packets, pair_at}
 use Rattle.scc_commands.proofs.ImportLemmas.{columns_bytes, none_before, other_number}
@@ -98,5 +101,7 @@ packets_filled pairs frame (suc n) are =
 pub exported_again : (time : TimeCode) (pairs : PlacedPairs) → AreRising 0 pairs → AreBytes pairs
     → export_file time (import_packets pairs) ≡ written_file (frame_number time) time.drop_frame pairs
 exported_again time pairs rising are =
-    ap (λ l. head_text ++ text_from (first_standing time) l) (packets_filled pairs 0 (frames_of pairs) are)
+    ap (written_file (frame_number time) time.drop_frame) (packets_filled pairs 0 (frames_of pairs) are)
+    ∙ sym (text_written (frame_number time) time.drop_frame (filled pairs 0 (frames_of pairs)))
     ∙ ap (λ t. head_text ++ t) (same_text (frames_of pairs) 0 pairs (first_standing time) rising (omega arith))
+    ∙ text_written (frame_number time) time.drop_frame pairs

@@ -16,13 +16,18 @@ use Rattle.line21_codes.specs.declared.channels.FieldNumber.TheVariants.{One}
 use Rattle.line21_codes.specs.declared.pairs.Pair.{Pair}
 use Rattle.line21_codes.specs.NullPairs.{is_null}
 use Rattle.scc_files.proofs.Complete.{number_is}
-use Rattle.scc_files.specs.Writing.{Standing, StandsFirst, end_text, head_text, is_past_day, piece_of, stand_behind, standing_of}
+use Rattle.scc_files.proofs.PiecesLemmas.{ends_first, front_ended, front_is}
+use Rattle.scc_files.specs.Pieces.{pieces, stand_after}
+use Rattle.scc_files.specs.Stretches.{ending}
+use Rattle.scc_files.specs.Writing.{Standing, StandsFirst, end_text, piece_of, stand_behind, standing_of}
 use Rattle.scc_files.specs.declared.writer.SccWriter.{SccWriter}
-use Rattle.scc_files.specs.Written.{text_from}
+use Rattle.scc_files.specs.Written.{head_text, is_past_day, stretches_of}
+use Rattle.time_codes.specs.Frames.{frame_number}
 use Rattle.time_codes.specs.declared.time_code.TimeCode.{TimeCode}
 use Rattle.words_reading.proofs.WayLemmas.{way_unwritten}
 use Rattle.scc_commands.specs.Import.{PlacedPairs}
-use Rattle.scc_commands.specs.Export.{AreExported, HasNoFinding, export_file, export_front, exported, exported_from, first_standing, pairs_of, pieces, stand_after}
+use Rattle.scc_commands.specs.Export.{AreExported, HasNoFinding, export_file, export_front, exported, exported_from, pairs_of}
+use Rattle.scc_commands.specs.Exporting.{first_standing}
 
 -- pairs at one frame
 abbrev pub at_number : ℕ → List Pair → PlacedPairs
@@ -32,8 +37,12 @@ at_number number pairs = map (λ pair. (number, pair)) pairs
 abbrev pub HaveNoFinding : List Frame → Type 0
 HaveNoFinding frames = AllByRecursion HasNoFinding frames
 
+-- the pair isn't null, and stands past the day of a writer
+abbrev pub passes_day : Standing → ℕ → Pair → Bool
+passes_day w frame pair = is_past_day w.start w.drop_frame frame pair
+
 abbrev pub AreWithinDay : TimeCode → PlacedPairs → Type 0
-AreWithinDay time pairs = AllByRecursion (λ (placed : ℕ × Pair). is_past_day (first_standing time) placed.0 placed.1 ≡ false) pairs
+AreWithinDay time pairs = AllByRecursion (λ (placed : ℕ × Pair). passes_day (first_standing time) placed.0 placed.1 ≡ false) pairs
 
 -- the pairs of frames and of one more
 one_frame_more : (number : ℕ) (frames : List Frame) (last : Frame)
@@ -84,16 +93,30 @@ exported_more time frames last pairs is none within are = record {
       (subst (λ l. AreWithinDay time (at_number (length frames) l)) (sym is) within));
 }
 
+-- what was put of frames, piece by piece
+abbrev pub put_front : TimeCode → List Frame → List ℕ
+put_front time frames = head_text ++ pieces (first_standing time) (exported frames)
+
+front_put : (time : TimeCode) (frames : List Frame) → put_front time frames ≡ export_front time frames
+front_put time frames = front_is (frame_number time) time.drop_frame (exported frames)
+
+put_more : (time : TimeCode) (frames : List Frame) (last : Frame) (pairs : List Pair) → pairs_of last ≡ pairs
+    → put_front time (frames ++ last ∷ [])
+    ≡ put_front time frames ++ pieces (stand_after (first_standing time) (exported frames)) (at_number (length frames) pairs)
+put_more time frames last pairs is =
+    ap (λ l. head_text ++ pieces (first_standing time) l) (one_more frames last)
+    ∙ ap (λ l. head_text ++ l) (pieces_more (exported frames) (at_number (length frames) (pairs_of last)) (first_standing time))
+    ∙ sym (append_assoc head_text (pieces (first_standing time) (exported frames))
+    (pieces (stand_after (first_standing time) (exported frames)) (at_number (length frames) (pairs_of last))))
+    ∙ ap (λ l. put_front time frames ++ pieces (stand_after (first_standing time) (exported frames)) (at_number (length frames) l)) is
+
 -- the text of a frame more
 pub front_more : (time : TimeCode) (frames : List Frame) (last : Frame) (pairs : List Pair) → pairs_of last ≡ pairs
     → export_front time (frames ++ last ∷ [])
     ≡ export_front time frames ++ pieces (stand_after (first_standing time) (exported frames)) (at_number (length frames) pairs)
 front_more time frames last pairs is =
-    ap (λ l. head_text ++ pieces (first_standing time) l) (one_more frames last)
-    ∙ ap (λ l. head_text ++ l) (pieces_more (exported frames) (at_number (length frames) (pairs_of last)) (first_standing time))
-    ∙ sym (append_assoc head_text (pieces (first_standing time) (exported frames))
-    (pieces (stand_after (first_standing time) (exported frames)) (at_number (length frames) (pairs_of last))))
-    ∙ ap (λ l. export_front time frames ++ pieces (stand_after (first_standing time) (exported frames)) (at_number (length frames) l)) is
+    sym (front_put time (frames ++ last ∷ [])) ∙ put_more time frames last pairs is
+    ∙ ap (λ (l : List ℕ). l ++ pieces (stand_after (first_standing time) (exported frames)) (at_number (length frames) pairs)) (front_put time frames)
 
 -- where a frame more leads
 pub stand_frame : (time : TimeCode) (frames : List Frame) (last : Frame) (pairs : List Pair) → pairs_of last ≡ pairs
@@ -118,12 +141,12 @@ day_after [] w v day = day
 day_after (placed ∷ pairs) w v day =
     day_after pairs (stand_behind w placed.0 placed.1) v (day_behind w v placed.0 placed.1 (is_null placed.1) refl day)
 
-same_past : (w v : Standing) (frame : ℕ) (pair : Pair) → HasDay w v → is_past_day w frame pair ≡ is_past_day v frame pair
+same_past : (w v : Standing) (frame : ℕ) (pair : Pair) → HasDay w v → passes_day w frame pair ≡ passes_day v frame pair
 same_past w v frame pair day = rw (day.start, day.drop_frame) refl
 
 -- so whether a pair stands past the day is asked of any writer of the file
 pub past_is : (time : TimeCode) (pairs : PlacedPairs) (frame : ℕ) (pair : Pair)
-    → is_past_day (stand_after (first_standing time) pairs) frame pair ≡ is_past_day (first_standing time) frame pair
+    → passes_day (stand_after (first_standing time) pairs) frame pair ≡ passes_day (first_standing time) frame pair
 past_is time pairs frame pair =
     same_past (stand_after (first_standing time) pairs) (first_standing time) frame pair
     (day_after pairs (first_standing time) (first_standing time) (record { start = refl; drop_frame = refl }))
@@ -143,17 +166,13 @@ gathered_failed a b c held piece all way failed =
     puts_stop a c all piece (way_unwritten a b c held all way failed)
 
 -- the front of a file and what ends it are the file
-text_is : (pairs : PlacedPairs) (w : Standing) → pieces w pairs ++ end_text (stand_after w pairs).behind ≡ text_from w pairs
-text_is [] w = refl
-text_is (placed ∷ pairs) w =
-    append_assoc (piece_of w placed.0 placed.1) (pieces (stand_behind w placed.0 placed.1) pairs) (end_text (stand_after (stand_behind w placed.0 placed.1) pairs).behind)
-    ∙ ap (λ l. piece_of w placed.0 placed.1 ++ l) (text_is pairs (stand_behind w placed.0 placed.1))
+pub front_and_end : (time : TimeCode) (frames : List Frame) → export_front time frames ++ ending (stretches_of (exported frames)) ≡ export_file time frames
+front_and_end time frames = front_ended (frame_number time) time.drop_frame (exported frames)
 
 pub file_ends : (time : TimeCode) (frames : List Frame)
     → export_front time frames ++ end_text (stand_after (first_standing time) (exported frames)).behind ≡ export_file time frames
 file_ends time frames =
-    append_assoc head_text (pieces (first_standing time) (exported frames)) (end_text (stand_after (first_standing time) (exported frames)).behind)
-    ∙ ap (λ l. head_text ++ l) (text_is (exported frames) (first_standing time))
+    ap (λ (l : List ℕ). export_front time frames ++ l) (ends_first (frame_number time) time.drop_frame (exported frames)) ∙ front_and_end time frames
 
 -- the one pair of a list that has no more
 pub one_pair : (pairs : List Pair) (pair : Pair) (rest : List Pair) → pairs ≡ pair ∷ rest → length pairs ≤ 1 → pairs ≡ pair ∷ []

@@ -1,7 +1,7 @@
--- Believed in part: the program's answer stands on some of these definitions.
+-- Believed: the program's answer stands on these definitions.
 -- What `export` makes of words: the SCC file of the field 1 pairs that the frames of a words file carry, or why it stops, and with what
 -- text before.
-use Rattle.std.specs.Prelude.{◌≡◌, ◌≢◌, ◌<◌, ◌≤◌, ℕ, suc, true, false, List, [], ◌∷◌, ◌++◌, length, map, None}
+use Rattle.std.specs.Prelude.{◌≡◌, ◌≢◌, ◌<◌, ◌≤◌, ℕ, suc, true, false, List, [], ◌∷◌, ◌++◌, length, map}
 use Rattle.std.specs.List.{AllByRecursion}
 use Rattle.cc_base.specs.declared.limit_of.LimitOf.TheVariants as limit
 use Rattle.cc_base.specs.declared.rate.Rate.TheVariants as rate
@@ -11,15 +11,14 @@ use Rattle.findings.specs.declared.finding.Kind45.{Kind45}
 use Rattle.findings.specs.declared.finding.Kind45.TheVariants as kind
 use Rattle.time_codes.specs.Frames.{frame_number}
 use Rattle.time_codes.specs.declared.time_code.TimeCode.{TimeCode}
-use Rattle.scc_files.specs.Writing.{Standing, head_text, is_past_day, piece_of, stand_behind}
-use Rattle.scc_files.specs.Written.{written_file}
+use Rattle.scc_files.specs.Written.{is_past_day, written_file, written_front}
 use Rattle.cdp_packets.specs.Packets.{Frame}
 use Rattle.cdp_packets.specs.PacketTriplets.{packet_triplets}
 use Rattle.words_files.specs.Received.{field_pairs}
 use Rattle.command_base.specs.declared.status.Status.{Status}
 use Rattle.command_base.specs.declared.status.Status.TheVariants as status
 use Rattle.words_reading.specs.FrameTexts.{FramesHalt, FramesSay}
-use Rattle.words_reading.specs.WordsVerdict.{OfFile, WordsVerdict}
+use Rattle.words_reading.specs.WordsVerdict.{EndsWell, WordsVerdict}
 use Rattle.scc_commands.specs.Import.{PlacedPairs}
 
 -- the field 1 pairs of a frame: those of its triplets that count
@@ -39,22 +38,9 @@ exported frames = exported_from 0 frames
 abbrev pub export_file : TimeCode → List Frame → List ℕ
 export_file time frames = written_file (frame_number time) time.drop_frame (exported frames)
 
--- where a file begins whose frame 0 has this time code
-abbrev pub first_standing : TimeCode → Standing
-first_standing time = record { start = frame_number time; drop_frame = time.drop_frame; behind = None }
-
--- what is written of pairs one after another, and where that leads
-abbrev pub pieces : Standing → PlacedPairs → List ℕ
-pieces w [] = []
-pieces w (placed ∷ pairs) = piece_of w placed.0 placed.1 ++ pieces (stand_behind w placed.0 placed.1) pairs
-
-abbrev pub stand_after : Standing → PlacedPairs → Standing
-stand_after w [] = w
-stand_after w (placed ∷ pairs) = stand_after (stand_behind w placed.0 placed.1) pairs
-
--- the SCC file of frames without what ends it, the two line ends behind its last stretch
+-- the same without what ends it, the two line ends after its last line
 abbrev pub export_front : TimeCode → List Frame → List ℕ
-export_front time frames = head_text ++ pieces (first_standing time) (exported frames)
+export_front time frames = written_front (frame_number time) time.drop_frame (exported frames)
 
 -- nothing is found at a frame: it has the rate 29.97 and at most one pair of field 1
 pub record HasNoFinding (frame : Frame) : Type 0 where
@@ -70,34 +56,22 @@ HasFinding frame _ = ⊥
 -- frames that are exported: nothing is found at any, and no pair that isn't null stands at or past the end of the day of frame 0
 pub record AreExported (time : TimeCode) (frames : List Frame) : Type 0 where
   pub no_finding : AllByRecursion HasNoFinding frames
-  pub within_day : AllByRecursion (λ (placed : ℕ × Pair). is_past_day (first_standing time) placed.0 placed.1 ≡ false) (exported frames)
+  pub within_day : AllByRecursion (λ (placed : ℕ × Pair). is_past_day (frame_number time) time.drop_frame placed.0 placed.1 ≡ false) (exported frames)
 
--- nothing is found at the frame of this number, and its pair isn't null and stands at or past the end of the day
-pub record StandsPastDay (time : TimeCode) (number : ℕ) (frame : Frame) : Type 0 where
-  pub no_finding : HasNoFinding frame
-  pub pair : Pair
-  pub is_pair : pairs_of frame ≡ pair ∷ []
-  pub past : is_past_day (first_standing time) number pair ≡ true
-
--- an export stops at the frame of this number with this status: something is found at it, or its pair stands past the day
+-- an export stops at the frame of this number with this status: something is found at it; or nothing is, and its pair isn't null and
+-- stands at or past the end of the day
 abbrev pub StopsAtFrame : TimeCode → ℕ → Frame → Status → Type 0
 StopsAtFrame time number frame (status.Differs finding) = (finding.frame ≡ number) × HasFinding frame finding.kind
-StopsAtFrame time number frame (status.Limit limit.Day) = StandsPastDay time number frame
+StopsAtFrame time number frame (status.Limit limit.Day) =
+    HasNoFinding frame × (pair : Pair) × (pairs_of frame ≡ pair ∷ []) × (is_past_day (frame_number time) time.drop_frame number pair ≡ true)
 StopsAtFrame time number frame _ = ⊥
-
--- this is the text of the frames that bytes bring, which are exported
-abbrev pub IsExportOf : TimeCode → (TimeCode → List Frame → List ℕ) → List ℕ → List ℕ → Type 0
-IsExportOf time text_of = FramesSay (text_of time) (AreExported time)
 
 -- bytes, none of whose words offends, end with the first frame at which an export stops, and this is the text of the frames before
 abbrev pub ExportHalts : TimeCode → Status → List ℕ → List ℕ → Type 0
 ExportHalts time answer = FramesHalt (export_front time) (AreExported time) (λ frames last. StopsAtFrame time (length frames) last answer)
 
--- or the whole SCC file is that of a words file
-abbrev pub ExportEnd : TimeCode → Status → List ℕ → List ℕ → Type 0
-ExportEnd time status.Ok input text = OfFile (λ frames. AreExported time frames × (text ≡ export_file time frames)) input
-ExportEnd time _ input text = ⊥
-
--- `export`, where frame 0 has this time code
+-- `export`, where frame 0 has this time code: a words file whose frames are exported ends well, with their whole SCC file
 abbrev pub ExportVerdict : TimeCode → List ℕ → Status → List ℕ → Type 0
-ExportVerdict time = WordsVerdict (ExportEnd time) (IsExportOf time export_front) (ExportHalts time)
+ExportVerdict time =
+    WordsVerdict (EndsWell (λ frames text. AreExported time frames × (text ≡ export_file time frames)))
+    (FramesSay (export_front time) (AreExported time)) (ExportHalts time)

@@ -1,14 +1,18 @@
 -- Between crates: the program's answer stands on none of these definitions.
 -- What an export makes of frames.
-use Rattle.std.specs.Prelude.{◌≡◌, List, Option, Some, None}
+use Rattle.std.specs.Prelude.{◌≡◌, ℕ, List, Option, Some, None}
 use Rattle.cc_base.specs.declared.limit_of.LimitOf.TheVariants as limit
 use Rattle.cdp_packets.specs.Packets.{Frame}
 use Rattle.command_base.specs.declared.status.Status.{Status}
 use Rattle.command_base.specs.declared.status.Status.TheVariants as status
 use Rattle.findings.specs.declared.finding.Kind45.{Kind45}
-use Rattle.scc_files.specs.Writing.{standing_of}
+use Rattle.scc_files.specs.Pieces.{stand_after, standing_first}
+use Rattle.scc_files.specs.Writing.{Standing, standing_of}
+use Rattle.time_codes.specs.Frames.{frame_number}
 use Rattle.time_codes.specs.declared.time_code.TimeCode.{TimeCode}
-use Rattle.scc_commands.specs.Export.{AreExported, HasFinding, HasNoFinding, exported, first_standing, stand_after}
+use Rattle.words_reading.specs.FrameTexts.{FramesSay}
+use Rattle.words_reading.specs.WordsVerdict.{EndsWell}
+use Rattle.scc_commands.specs.Export.{AreExported, HasFinding, HasNoFinding, export_file, export_front, exported}
 use Rattle.scc_commands.specs.declared.exporting.ExportStop.{ExportStop}
 use Rattle.scc_commands.specs.declared.exporting.ExportStop.TheVariants as reason
 use Rattle.scc_commands.specs.declared.exporting.Exporting.{Exporting}
@@ -23,7 +27,19 @@ abbrev pub reason_status : ExportStop → Status
 reason_status (reason.Found finding) = status.Differs finding
 reason_status reason.Day = status.Limit limit.Day
 
+-- where a file begins whose frame 0 has this time code
+abbrev pub first_standing : TimeCode → Standing
+first_standing time = standing_first (frame_number time) time.drop_frame
+
 -- an export stands behind frames, which are exported
 pub record StandsBehind (time : TimeCode) (frames : List Frame) (export : Exporting) : Type 0 where
   pub are_exported : AreExported time frames
   pub writer : standing_of export.writer ≡ stand_after (first_standing time) (exported frames)
+
+-- the bytes bring frames that are exported, and this is the front of their file
+abbrev pub IsExportOf : TimeCode → List ℕ → List ℕ → Type 0
+IsExportOf time = FramesSay (export_front time) (AreExported time)
+
+-- a words file whose frames are exported ends with their whole file
+abbrev pub ExportEnd : TimeCode → Status → List ℕ → List ℕ → Type 0
+ExportEnd time = EndsWell (λ frames text. AreExported time frames × (text ≡ export_file time frames))

@@ -2,21 +2,20 @@
 ghost use Rattle.std.specs.Prelude.{◌≡◌, ◌++◌, List, ℕ};
 ghost use Rattle.cdp_packets.specs.Packets.{Frame};
 ghost use Rattle.scc_files.specs.SccFiles.{AreBytes, AreRising, IsSccFile};
-ghost use Rattle.scc_files.specs.Writing.{end_text};
-ghost use Rattle.scc_files.specs.Written.{counted, pairs_not_null, written_file};
+ghost use Rattle.scc_files.specs.Stretches.{ending};
+ghost use Rattle.scc_files.specs.Written.{counted, pairs_not_null, stretches_of, written_file};
 ghost use Rattle.time_codes.specs.Frames.{frame_number};
 ghost use Rattle.time_codes.specs.declared.time_code.TimeCode.{TimeCode as Time};
 ghost use Rattle.words_files.specs.Frames.{IsFileOf};
-ghost use Rattle.scc_commands.specs.Export.{AreExported, export_file, export_front, exported, first_standing, stand_after};
+ghost use Rattle.scc_commands.specs.Export.{AreExported, export_file, export_front, exported};
 ghost use Rattle.scc_commands.specs.Import.{PlacedPairs, import_packets};
 
-/// The law that the front of a file which `export` puts is the file without what ends it: the two line ends behind its last stretch,
-/// where it has one.
+/// The law that the front of a file which `export` puts is the file without what ends it: the two line ends after its last line,
+/// if it has one.
 pub fn front_and_end_are_the_file()
     ensures { (time : Time) (frames : List Frame)
         → export_front time frames
-        ++ end_text (stand_after (first_standing time) (exported frames)).behind
-        ≡ export_file time frames }
+        ++ ending (stretches_of (exported frames)) ≡ export_file time frames }
 {}
 
 /// The law that what is imported is exported again: the words of an SCC file's pairs are exported as the written form of these pairs. So a

@@ -10,5 +10,6 @@ pub mod First
 pub mod AnswerLemmas
 pub mod Unique
 pub mod Rising
+pub mod PiecesLemmas
 pub mod RoundTrip
 pub mod StretchLemmas

@@ -13,8 +13,10 @@ use Rattle.hex_digits.specs.HexDigits.{hex_value, lower_hex_digit}
 use Rattle.scc_files.specs.SccFiles.{AreTimed, IsSccFile, one_a_frame, placed_from}
 use Rattle.scc_files.specs.Words.{pair_word}
 use Rattle.scc_files.specs.Writing.{Standing, between}
-use Rattle.scc_files.specs.Written.{AreWritable, counted, counted_from, pairs_not_null, text_from, written_file}
+use Rattle.scc_files.specs.Pieces.{standing_first, text_from}
+use Rattle.scc_files.specs.Written.{AreWritable, counted, counted_from, head_text, pairs_not_null, written_file}
 use Rattle.scc_files.proofs.Complete.{number_is}
+use Rattle.scc_files.proofs.PiecesLemmas.{text_written}
 
 -- a frame of the day has a time code, whose numbers have two digits
 pub time_of_drop : (frame : ℕ) → frame < 2589408 → frame_of (time_at frame true) ≡ Ok frame
@@ -268,13 +270,18 @@ before (placed ∷ pairs) start low drop_frame (high, a_fits, b_fits, day, rest)
     ] in
     by_null (is_null pair) refl
 
-pub written_is_file : (pairs : List (ℕ × Pair)) (start : ℕ) (drop_frame : Bool) → AreWritable start drop_frame 0 pairs
-    → IsSccFile (counted (pairs_not_null pairs)) (written_file start drop_frame pairs)
-written_is_file pairs start drop_frame are =
+text_is_file : (pairs : List (ℕ × Pair)) (start : ℕ) (drop_frame : Bool) → AreWritable start drop_frame 0 pairs
+    → IsSccFile (counted (pairs_not_null pairs)) (head_text ++ text_from (standing_first start drop_frame) pairs)
+text_is_file pairs start drop_frame are =
     let b = before pairs start 0 drop_frame are in
     record {
       lines = b.lines;
-      form = record { spaces = []; rest = 10 ∷ 10 ∷ text_from (record { start = start; drop_frame = drop_frame; behind = None }) pairs; are_spaces = tt; are_lines = b.are_lines; spelled = refl };
+      form = record { spaces = []; rest = 10 ∷ 10 ∷ text_from (standing_first start drop_frame) pairs; are_spaces = tt; are_lines = b.are_lines; spelled = refl };
       timed = b.timed;
       placed = b.placed;
     }
+
+pub written_is_file : (pairs : List (ℕ × Pair)) (start : ℕ) (drop_frame : Bool) → AreWritable start drop_frame 0 pairs
+    → IsSccFile (counted (pairs_not_null pairs)) (written_file start drop_frame pairs)
+written_is_file pairs start drop_frame are =
+    subst (IsSccFile (counted (pairs_not_null pairs))) (text_written start drop_frame pairs) (text_is_file pairs start drop_frame are)

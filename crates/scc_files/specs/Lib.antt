@@ -2,8 +2,9 @@ pub mod Phases
 pub mod Gathering
 pub mod Reading
 pub mod Words
-pub mod Writing
 pub mod Written
+pub mod Writing
+pub mod Pieces
 pub mod Lines
 pub mod SccFiles
 pub mod Offences

@@ -1,6 +1,6 @@
--- Believed in part: the program's answer stands on some of these definitions.
+-- Between crates: the program's answer stands on none of these definitions.
 -- How pairs are written as an SCC file, call by call.
-use Rattle.std.specs.Prelude.{◌≡◌, ℕ, ◌+◌, ◌==◌, ◌&&◌, Bool, true, false, not, if◌then◌else◌, nat_le, List, [], ◌∷◌, ◌++◌, codes, Option, Some, None, Result, Ok, Err}
+use Rattle.std.specs.Prelude.{◌≡◌, ℕ, ◌+◌, ◌==◌, Bool, true, false, if◌then◌else◌, List, [], ◌∷◌, ◌++◌, Option, Some, None, Result, Ok, Err}
 use Rattle.cc_base.specs.Streams.{PutCause, Puts}
 use Rattle.cc_base.specs.declared.streams.Put.{Put}
 use Rattle.cc_base.specs.declared.streams.Put.TheVariants as put
@@ -8,16 +8,12 @@ use Rattle.line21_codes.specs.declared.pairs.Pair.{Pair}
 use Rattle.line21_codes.specs.NullPairs.{is_null}
 use Rattle.time_codes.specs.Frames.{frame_of, time_at}
 use Rattle.time_codes.specs.Texts.{text_of}
-use Rattle.time_codes.specs.TimeCodes.{day_frames}
 use Rattle.time_codes.specs.declared.time_code.TimeCode.{TimeCode}
 use Rattle.scc_files.specs.Words.{pair_word}
+use Rattle.scc_files.specs.Written.{head_text, is_past_day}
 use Rattle.scc_files.specs.declared.writer.SccPut.{SccPut}
 use Rattle.scc_files.specs.declared.writer.SccPut.TheVariants as scc_put
 use Rattle.scc_files.specs.declared.writer.SccWriter.{SccWriter}
-
--- the first line and an empty one
-abbrev pub head_text : List ℕ
-head_text = codes "Scenarist_SCC V1.0\n\n"
 
 -- where a writer stands: the frame of the day of frame 0, whether its day counts with drop frame, and the frame behind the last pair
 -- that was put
@@ -28,10 +24,6 @@ pub record Standing : Type 0 where
 
 abbrev pub standing_of : SccWriter → Standing
 standing_of w = record { start = w.start; drop_frame = w.drop_frame; behind = w.behind }
-
--- the pair isn't null and stands at or past the end of the start's day
-abbrev pub is_past_day : Standing → ℕ → Pair → Bool
-is_past_day w frame pair = not (is_null pair) && nat_le (day_frames w.drop_frame) (w.start + frame)
 
 -- what stands between the stretch before and a new one
 abbrev pub between : Option ℕ → List ℕ
@@ -62,8 +54,8 @@ StandsFirst start w = (frame_of start ≡ Ok w.start) × (w.drop_frame ≡ start
 -- what is to be put of a pair is given, or that it stands past the day
 abbrev pub GivesPiece : Standing → Standing → ℕ → Pair → Option (List ℕ) → Type 0
 GivesPiece w v frame pair (Some piece) =
-    (is_past_day w frame pair ≡ false) × (piece ≡ piece_of w frame pair) × (v ≡ stand_behind w frame pair)
-GivesPiece w v frame pair None = (is_past_day w frame pair ≡ true) × (v ≡ w)
+    (is_past_day w.start w.drop_frame frame pair ≡ false) × (piece ≡ piece_of w frame pair) × (v ≡ stand_behind w frame pair)
+GivesPiece w v frame pair None = (is_past_day w.start w.drop_frame frame pair ≡ true) × (v ≡ w)
 
 -- a piece was put, or a front of it where the sink failed
 abbrev pub PutsPieceOrFails : Option (List ℕ) → Option (List ℕ) → ℕ → ℕ → Put → List ℕ → Type 0
@@ -79,10 +71,10 @@ BeginsWriting start old new before now (Err scc_put.Day) = ⊥
 -- it writes a pair
 abbrev pub WritesPair : Standing → Standing → ℕ → Pair → Option (List ℕ) → Option (List ℕ) → ℕ → ℕ → Result (Unit {0}) SccPut → Type 0
 WritesPair w v frame pair old new before now (Ok _) =
-    (is_past_day w frame pair ≡ false) × PutsPieceOrFails old new before now put.Done (piece_of w frame pair) × (v ≡ stand_behind w frame pair)
+    (is_past_day w.start w.drop_frame frame pair ≡ false) × PutsPieceOrFails old new before now put.Done (piece_of w frame pair) × (v ≡ stand_behind w frame pair)
 WritesPair w v frame pair old new before now (Err scc_put.Fault) =
-    (is_past_day w frame pair ≡ false) × PutsPieceOrFails old new before now put.Failed (piece_of w frame pair)
-WritesPair w v frame pair old new before now (Err scc_put.Day) = (is_past_day w frame pair ≡ true) × (new ≡ old) × (now ≡ before) × (v ≡ w)
+    (is_past_day w.start w.drop_frame frame pair ≡ false) × PutsPieceOrFails old new before now put.Failed (piece_of w frame pair)
+WritesPair w v frame pair old new before now (Err scc_put.Day) = (is_past_day w.start w.drop_frame frame pair ≡ true) × (new ≡ old) × (now ≡ before) × (v ≡ w)
 
 -- what ends a file
 abbrev pub end_text : Option ℕ → List ℕ

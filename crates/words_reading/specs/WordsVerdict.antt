@@ -14,6 +14,11 @@ use Rattle.words_reading.specs.Causes.{words_limit}
 abbrev pub OfFile : (List Frame → Type 0) → List ℕ → Type 0
 OfFile Holds input = (frames : List Frame) × IsFileUnder caption_channel frames input × Holds frames
 
+-- a file ends well: Ok is answered, and of its frames and the text this holds
+abbrev pub EndsWell : (List Frame → List ℕ → Type 0) → Status → List ℕ → List ℕ → Type 0
+EndsWell Holds status.Ok input text = OfFile (λ frames. Holds frames text) input
+EndsWell Holds _ input text = ⊥
+
 -- as much of the words as the limit admits
 abbrev pub admitted : List ℕ → List ℕ
 admitted input = take words_limit input

@@ -1,6 +1,6 @@
 use Rattle.std.proofs.Common.{refl}
 use Rattle.scc_commands.specs.Export.{ExportVerdict}
-use Rattle.scc_files.specs.Writing.{head_text}
+use Rattle.scc_files.specs.Written.{head_text}
 use Rattle.command_base.proofs.RealisedLemmas.{no_memory}
 use Rattle.words_reading.proofs.FrameLemmas.{nothing_read}
 use Rattle.scc_commands.proofs.WrittenLemmas.{stands_first}

@@ -1,5 +1,5 @@
-use Rattle.scc_commands.proofs.WrittenLemmas.{file_ends}
+use Rattle.scc_commands.proofs.WrittenLemmas.{front_and_end}
 use Rattle.scc_commands.proofs.laws.front_and_end_are_the_file.Goals as goal
 
 pub returns : goal.returns
-returns c = file_ends
+returns c = front_and_end
