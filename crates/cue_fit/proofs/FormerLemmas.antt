@@ -17,12 +17,12 @@ find_after : (on : Lane) (xs ys : List Cue) → AreOff on xs → find (on_lane o
 find_after on [] ys off = refl
 find_after on (x ∷ xs) ys off = let no : on_lane on x ≡ false = off.0 in rw no (find_after on xs ys off.1)
 
-hidden_after : (frame : ℕ) (on : Lane) (xs ys : List Cue) → AreOff on xs → hidden_in frame on (xs ++ ys) ≡ xs ++ hidden_in frame on ys
+pub hidden_after : (frame : ℕ) (on : Lane) (xs ys : List Cue) → AreOff on xs → hidden_in frame on (xs ++ ys) ≡ xs ++ hidden_in frame on ys
 hidden_after frame on [] ys off = refl
 hidden_after frame on (x ∷ xs) ys off =
     let no : on_lane on x ≡ false = off.0 in rw no (ap (λ (l : List Cue). x ∷ l) (hidden_after frame on xs ys off.1))
 
-off_back : (on : Lane) (xs : List Cue) → AreOff on xs → AreOff on (reverse xs)
+pub off_back : (on : Lane) (xs : List Cue) → AreOff on xs → AreOff on (reverse xs)
 off_back on xs off =
     recursion_from_All (λ (cue : Cue). on_lane on cue ≡ false) (reverse xs)
     (All-reverse (λ (cue : Cue). on_lane on cue ≡ false) xs (All-from_recursion (λ (cue : Cue). on_lane on cue ≡ false) xs off))

@@ -4,5 +4,8 @@ pub mod FittedLemmas
 pub mod PlanLemmas
 pub mod OneFitLemmas
 pub mod PlannedLemmas
+pub mod TailLemmas
+pub mod NearLemmas
+pub mod ShortLemmas
 pub mod FormedLemmas
 pub mod DecidedLemmas

@@ -10,7 +10,7 @@ use Rattle.cue_fit.specs.Fitted.{AreFitted, HasPlan, IsFitted, list_of}
 use Rattle.cue_fit.specs.Shown.{with_shown}
 
 -- a list without cues has one
-empty_plan : (list : Listing) → HasPlan (list_of list [])
+pub empty_plan : (list : Listing) → HasPlan (list_of list [])
 empty_plan list = record {
   ruled = record { kept = tt };
   placed = λ on. [];
@@ -22,7 +22,7 @@ empty_plan list = record {
     placement (Service service) = earliest_none _
 
 -- and so has each list of cues that are fitted after those of such a one
-fitted_plan : (late : ℕ) (list : Listing) (earlier cues fitted : List Cue) → HasPlan (list_of list earlier) → AreFitted late list earlier cues fitted
+pub fitted_plan : (late : ℕ) (list : Listing) (earlier cues fitted : List Cue) → HasPlan (list_of list earlier) → AreFitted late list earlier cues fitted
     → HasPlan (list_of list fitted)
 fitted_plan late list earlier [] fitted plan are = subst (λ (e : List Cue). HasPlan (list_of list e)) (sym are) plan
 fitted_plan late list earlier (cue ∷ cues) fitted plan are = fitted_plan late list (with_shown are.0 cue earlier) cues fitted are.1.may are.2

@@ -1,15 +1,17 @@
 -- Between crates: the program's answer stands on none of these definitions.
 -- What the steps of fitting a list answer.
-use Rattle.std.specs.Prelude.{◌≡◌, ℕ, ◌+◌, ◌<◌, List, length, Bool, true, false, Option, Some, None, Result, Ok, Err, drop, slice_index_or, ⊤}
+use Rattle.std.specs.Prelude.{◌≡◌, ℕ, ◌+◌, ◌<◌, List, All, length, reverse, Bool, true, false, Option, Some, None, Result, Ok, Err, drop, if◌then◌else◌, option_to_list, slice_index_or, ⊤}
 use Rattle.std.specs.List.{AllByRecursion}
-use Rattle.cue_lists.specs.Listing.{Listing}
-use Rattle.cue_lists.specs.Lane.{on_lane}
+use Rattle.cue_lists.specs.Cues.{IsCueFormed}
+use Rattle.cue_lists.specs.Listing.{IsFormed, Listing, most_cues}
+use Rattle.cue_lists.specs.Lane.{is_line21, on_lane}
+use Rattle.cue_lists.specs.Rules.Former.{former_cue}
 use Rattle.cue_lists.specs.declared.cue.Cue.{Cue}
 use Rattle.cue_lists.specs.declared.lane.Lane.{Lane}
 use Rattle.lanes.specs.declared.planning.PlanFault.{PlanFault}
 use Rattle.lanes.specs.declared.planning.PlanFault.TheVariants.{Memory, NoRoom}
 use Rattle.frame_scheduler.specs.ServicePlans.{IsMemory}
-use Rattle.cue_fit.specs.Fitted.{HasNoShow, HasPlan, IsFitted, IsShow, LacksShow}
+use Rattle.cue_fit.specs.Fitted.{HasNoShow, HasPlan, IsFitted, IsShow, LacksShow, list_of}
 
 -- none of the cues is on the lane
 abbrev pub AreOff : Lane → List Cue → Type 0
@@ -20,6 +22,18 @@ pub record IsLastOn (on : Lane) (cues : List Cue) (index : ℕ) : Type 0 where
   pub within : index < length cues
   pub here : (d : Cue) → on_lane on (slice_index_or cues index d) ≡ true
   pub after : AreOff on (drop (index + 1) cues)
+
+-- the cues after which one is tried, the newest first: on a channel the former one alone
+abbrev pub near : Cue → List Cue → List Cue
+near cue earlier = if is_line21 cue.kind then option_to_list (former_cue cue earlier) else earlier
+
+-- a cue comes next after cues in file order that have a plan
+pub record ComesNext (list : Listing) (earlier : List Cue) (cue : Cue) : Type 0 where
+  pub list_formed : IsFormed list
+  pub cues_formed : All IsCueFormed earlier
+  pub few : length earlier < most_cues
+  pub cue_formed : IsCueFormed cue
+  pub planned : HasPlan (list_of list (reverse earlier))
 
 -- whether a list has a plan
 abbrev pub TellsPlan : Listing → Result Bool PlanFault → Type 0

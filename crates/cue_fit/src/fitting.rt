@@ -1,11 +1,11 @@
-ghost use Rattle.std.specs.Prelude.{◌≡◌, ◌<◌, ◌≤◌, All, length, reverse};
-ghost use Rattle.cue_lists.specs.Cues.{IsCueFormed};
-ghost use Rattle.cue_lists.specs.Listing.{IsFormed, most_cues, most_frames};
+ghost use Rattle.std.specs.Prelude.{◌≤◌, reverse};
+ghost use Rattle.cue_lists.specs.Listing.{most_frames};
 ghost use Rattle.cue_lists.specs.Rules.{IsRuled};
 ghost use Rattle.cue_fit.specs.Fitted.{list_of, most_late};
 ghost use Rattle.cue_fit.specs.Shown.{with_shown};
-ghost use Rattle.cue_fit.specs.Tries.{FindsShow, FitsList, TellsPlan};
+ghost use Rattle.cue_fit.specs.Tries.{ComesNext, FindsShow, FitsList, TellsPlan};
 
+use crate::former::near_cues;
 use crate::shown::{add_shown, list_with, list_with_shown};
 use cue_lists::{Cue, CueList, check};
 use frame_scheduler::{PlanFault, plan};
@@ -49,10 +49,7 @@ fn first_show(
     cue: &Cue,
     late: u32,
 ) -> Result<Option<u32>, PlanFault>
-    requires list { IsFormed list.now }
-    requires formed { All IsCueFormed earlier.now }
-    requires few { length earlier.now < most_cues }
-    requires cue { IsCueFormed cue.now }
+    requires next { ComesNext list.now earlier.now cue.now }
     requires early { cue.now.show ≤ most_frames }
     requires late { late ≤ most_late }
     ensures { FindsShow late list.now (reverse earlier.now) cue.now result }
@@ -65,7 +62,8 @@ fn first_show(
     Ok(None)
 }
 
-/// Whether a cue may be shown in a frame after those so far: the list of all of them keeps the rules and has a placement.
+/// Whether a cue may be shown in a frame after those so far, whose list has a plan: the list of all of them keeps the rules and has a
+/// placement. On a channel that is told by the former cue alone.
 fn may_show(
     alloc: Global,
     list: &CueList,
@@ -73,14 +71,11 @@ fn may_show(
     cue: &Cue,
     show: u32,
 ) -> Result<bool, PlanFault>
-    requires list { IsFormed list.now }
-    requires formed { All IsCueFormed earlier.now }
-    requires few { length earlier.now < most_cues }
-    requires cue { IsCueFormed cue.now }
+    requires { ComesNext list.now earlier.now cue.now }
     ensures { TellsPlan
         (list_of list.now (with_shown show cue.now (reverse earlier.now))) result }
 {
-    match list_with_shown(alloc, list, earlier, cue, show) {
+    match list_with_shown(alloc, list, near_cues(earlier, cue), cue, show) {
         Ok(longer) => has_plan(alloc, &longer),
         Err(error) => Err(PlanFault::Memory(error)),
     }

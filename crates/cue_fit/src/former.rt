@@ -1,8 +1,8 @@
-ghost use Rattle.std.specs.Prelude.{◌≡◌, MatchOption};
+ghost use Rattle.std.specs.Prelude.{◌≡◌, MatchOption, reverse};
 ghost use Rattle.cue_lists.specs.Channels.{is_of_service};
 ghost use Rattle.cue_lists.specs.Lane.{kind_lane, same_lane};
 ghost use Rattle.cue_fit.specs.Shown.{load_after, takes_place};
-ghost use Rattle.cue_fit.specs.Tries.{AreOff, IsLastOn};
+ghost use Rattle.cue_fit.specs.Tries.{AreOff, IsLastOn, near};
 
 use cue_lists::lane::{is_line21, is_pop};
 use cue_lists::line21::is_on;
@@ -21,6 +21,20 @@ pub fn former_index(cues: &[Cue], kind: Kind) -> Option<usize>
         }
     }
     None
+}
+
+/// The cues after which a cue is tried: on a channel its former cue alone, if there is one. What stands before that one has ended
+/// by its SHOW, and neither the rules nor the room of the cue ask for it.
+pub fn near_cues<'a>(cues: &'a [Cue], cue: &Cue) -> &'a [Cue]
+    ensures { reverse result.now ≡ near cue.now (reverse cues.now) }
+{
+    if !is_line21(cue.kind) {
+        return cues;
+    }
+    match former_index(cues, cue.kind) {
+        Some(index) => &cues[index..index + 1],
+        None => &cues[..0],
+    }
 }
 
 /// Whether cues of both kinds are on one lane.

@@ -10,7 +10,24 @@ use Rattle.cue_fit.specs.Tries.{FindsShow}
 use Rattle.cue_fit.proofs.FittedLemmas.{lacks_here, length_added, read_more}
 use Rattle.cue_fit.proofs.FormedLemmas.{added_formed}
 use Rattle.cue_fit.proofs.PlanLemmas.{cue_early}
+use Rattle.cue_fit.proofs.PlannedLemmas.{empty_plan, fitted_plan}
 use Rattle.cue_fit.proofs.fitting.fit.Goals as goal
+
+pub first_show-requires-clause-next : goal.first_show-requires-clause-next
+first_show-requires-clause-next c =
+    let count = c.loop-index.invariant.count in
+    let most = c.cues-cues.ensures.formed.few in
+    let less : c.loop-index.index < length c.cues-cues.result.now = c.loop-index-test.true in
+    let same : length c.cues-cues.result.now ≡ length c.args.list.now.cues = ap length c.cues-cues.ensures.cues in
+    let are = c.loop-index.invariant.are in
+    rw c.deref.ensures.value (record {
+      list_formed = c.cues-cues.ensures.formed;
+      cues_formed = c.loop-index.invariant.formed;
+      few = omega (arith, count, most, less, same);
+      cue_formed = cue_formed c.args.list.now c.cues-cues.result.now c.loop-index.index c.index-cues-index.result c.cues-cues.ensures.formed c.cues-cues.ensures.cues
+          c.loop-index-test.true c.index-cues-index.is;
+      planned = fitted_plan c.args.late c.args.list.now [] (take c.loop-index.index c.cues-cues.result.now) (reverse c.loop-index.fitted.items) (empty_plan c.args.list.now) are;
+    })
 
 pub first_show-requires-clause-early : goal.first_show-requires-clause-early
 first_show-requires-clause-early c =
