@@ -36,7 +36,10 @@ names test cs id = list_any (λ c. test c && (c.id == id)) cs
 
 -- one command for the windows of all captions of which the test holds, if there are some
 abbrev pub windows_command : (ℕ → Command) → (Caption → Bool) → List Caption → List Command
-windows_command command test cs = if list_any test cs then command (windows_byte (names test cs)) ∷ [] else []
+windows_command command test cs =
+    if list_any test cs
+    then command (windows_byte (λ id. list_any (λ c. test c && (c.id == id)) cs)) ∷ []
+    else []
 
 -- a delay, and behind it, to be held, what shows the caption's window alone
 abbrev pub delay_commands : Option Caption → List Command
@@ -45,13 +48,15 @@ delay_commands (Some c) = Dly c.tenths ∷ Dsw (windows_byte (λ id. c.id == id)
 
 -- the caption whose delay starts in the frame
 abbrev pub delayed_at : ℕ → List Caption → Option Caption
-delayed_at frame cs = find (is_delayed_at frame) cs
+delayed_at frame cs = find (λ c. not (c.tenths == 0) && (c.starts == frame)) cs
 
 -- the events of a frame: one DeleteWindows for all captions that are hidden there, then one DisplayWindows for all that are
 -- shown there without a delay, then the delay that starts there
 abbrev pub event_commands : ℕ → List Caption → List Command
 event_commands frame cs =
-    windows_command Dlw (is_hidden_at frame) cs ++ windows_command Dsw (is_shown_at frame) cs ++ delay_commands (delayed_at frame cs)
+    windows_command Dlw (λ c. c.hide == frame) cs
+    ++ windows_command Dsw (λ c. (c.tenths == 0) && (c.starts == frame)) cs
+    ++ delay_commands (delayed_at frame cs)
 
 -- their bytes
 abbrev pub event_bytes : ℕ → List Caption → List ℕ

@@ -1,4 +1,4 @@
--- Believed: the program's answer stands on these definitions.
+-- Believed in part: the program's answer stands on some of these definitions.
 -- The commands that load a caption into its window (CTA-708-E, DefineWindow, SetWindowAttributes, and those of pens and text).
 use Rattle.std.specs.Prelude.{ℕ, Bool, true, false, if◌then◌else◌, List, [], ◌∷◌, ◌++◌, Option, Some, None, is_some, map, unwrap_or}
 use Rattle.std.specs.List.{flat_map, list_any}
@@ -60,13 +60,14 @@ character_commands text = map (λ ch. Put (Some ch)) text
 -- a run: its place, its pen, its colours, its characters
 abbrev pub run_commands : Bool → PenAttr → PenColors → Run → List Command
 run_commands coloured pen colors run =
-    Spl run.row run.col ∷ Spa (run_pen pen run.pen) ∷ (color_commands coloured colors run.colors ++ character_commands run.text)
+    Spl run.row run.col ∷ Spa (run_pen pen run.pen)
+    ∷ (color_commands coloured colors run.colors ++ map (λ ch. Put (Some ch)) run.text)
 
--- the window, its attributes, and its runs in order
+-- the window, its attributes, and its runs in order, with colours if some run has its own
 abbrev pub window_commands : WinCue → List Run → List Command
 window_commands w runs =
-    Df (definition_of w)
-    ∷ (attribute_commands w.attr ++ flat_map (run_commands (are_coloured runs) (pen_style w.ps).0 (pen_style w.ps).1) runs)
+    Df (definition_of w) ∷ (attribute_commands w.attr
+    ++ flat_map (run_commands (list_any (λ run. is_some run.colors) runs) (pen_style w.ps).0 (pen_style w.ps).1) runs)
 
 -- the commands of a cue of a kind; a line 21 cue has none
 abbrev pub commands_with : Kind → List Run → List Command
