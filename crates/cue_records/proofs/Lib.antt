@@ -1,0 +1,4 @@
+pub mod CutLemmas
+pub mod ReaderLemmas
+pub mod ApartLemmas
+pub mod CueReaderLemmas

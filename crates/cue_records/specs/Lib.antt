@@ -1,0 +1,4 @@
+pub mod RecordEnds
+pub mod RecordsCut
+pub mod CueApart
+pub mod CueReading

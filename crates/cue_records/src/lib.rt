@@ -1,0 +1,12 @@
+//! Records of cue lists as they come: those that are found in bytes that come in any pieces, and those of one cue by themselves.
+#![tactic(auto)]
+
+pub use crate::cue_reader::CueReader;
+pub use crate::record_reader::RecordReader;
+pub use crate::record_role::RecordRole;
+
+mod cue_reader;
+pub mod laws;
+mod record_reader;
+mod record_role;
+mod record_state;
