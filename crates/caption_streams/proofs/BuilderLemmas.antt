@@ -5,11 +5,11 @@ use Rattle.cc_base.specs.declared.rate.Rate.{Rate}
 use Rattle.cue_lists.specs.Listing.{Listing}
 use Rattle.frame_carrier.specs.Carrying.{IsAt, packet_count, packets_before}
 use Rattle.frame_carrier.specs.declared.carrier.Carrier.{Carrier}
-use Rattle.frame_scheduler.specs.Columns.{Columns}
-use Rattle.frame_scheduler.specs.Frames.{GivesFrom, frames_left}
-use Rattle.frame_scheduler.specs.Planned.{Placement, columns_of}
-use Rattle.frame_scheduler.specs.declared.frames.FrameBytes.{FrameBytes}
-use Rattle.frame_scheduler.specs.declared.frames.Plan.{Plan}
+use Rattle.frame_carrier.specs.Columns.{Columns}
+use Rattle.frame_carrier.specs.Frames.{GivesFrom, frames_left}
+use Rattle.frame_carrier.specs.Planned.{Placement, columns_of}
+use Rattle.frame_carrier.specs.FrameBytes.{FrameBytes}
+use Rattle.frame_carrier.specs.Plan.{Plan}
 use Rattle.caption_streams.specs.Builders.{IsAhead, IsBuilding, count_of}
 use Rattle.caption_streams.specs.declared.building.Building.{Building}
 

@@ -15,9 +15,9 @@ use Rattle.cue_lists.proofs.Faults.{answered_fault, answered_list}
 use Rattle.cue_lists.proofs.RuleLists.{one_fault, ruled_has_none}
 use Rattle.cue_lists.proofs.RulesDecided.{ruled_or_broken}
 use Rattle.cue_lists.proofs.Unique.{first_fault_read}
-use Rattle.frame_scheduler.specs.Planned.{IsFirstWithoutRoom, IsListPlaced, Placement}
-use Rattle.frame_scheduler.proofs.LanesLemmas.{first_without_room, one_placement, placed_has_room}
-use Rattle.frame_scheduler.proofs.RoomDecided.{list_decided}
+use Rattle.frame_carrier.specs.Planned.{IsFirstWithoutRoom, IsListPlaced, Placement}
+use Rattle.frame_carrier.proofs.LanesLemmas.{first_without_room, one_placement, placed_has_room}
+use Rattle.frame_carrier.proofs.RoomDecided.{list_decided}
 use Rattle.cc_base.specs.Streams.{whole_limit}
 use Rattle.cue_list_commands.specs.Accepted.{BreaksRule, IsAccepted, IsFaulty, IsGoodList, IsRefused, IsRefusedList, SpellGoodList}
 use Rattle.cue_list_commands.specs.Reads.{form_status}

@@ -6,7 +6,7 @@ use Rattle.cc_base.specs.declared.streams.Put.{Put}
 use Rattle.command_base.specs.WholeInput.{ReadsInput}
 use Rattle.command_base.specs.declared.status.Status.{Status}
 use Rattle.command_base.specs.declared.status.Status.TheVariants as status
-use Rattle.frame_scheduler.specs.Columns.{Columns}
+use Rattle.frame_carrier.specs.Columns.{Columns}
 use Rattle.frame_carrier.specs.Framing.{Framing, HasFraming}
 use Rattle.frame_carrier.specs.declared.programme.Programme.{Programme}
 use Rattle.cue_list_commands.specs.Made.{IsMadeOf, IsProgrammeOf}

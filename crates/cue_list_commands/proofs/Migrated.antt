@@ -4,9 +4,9 @@ use Rattle.std.specs.Prelude.{unwrap_or}
 use Rattle.cue_lists.specs.Listing.{IsFormed, Listing}
 use Rattle.cue_lists.specs.declared.lane.Lane.{Lane}
 use Rattle.cue_lists.specs.declared.lane.Lane.TheVariants.{Channel, Service}
-use Rattle.frame_scheduler.specs.Placing.{IsEarliest}
-use Rattle.frame_scheduler.specs.ServiceRoom.{caption_lane}
-use Rattle.frame_scheduler.specs.Planned.{IsLanePlaced, Placement, captions_in, chunks_in}
+use Rattle.frame_carrier.specs.Placing.{IsEarliest}
+use Rattle.frame_carrier.specs.ServiceRoom.{caption_lane}
+use Rattle.frame_carrier.specs.Planned.{IsLanePlaced, Placement, captions_in, chunks_in}
 use Rattle.cue_lists.specs.Printing.{in_order}
 use Rattle.cue_lists.specs.declared.head.Version.TheVariants as version
 use Rattle.cue_lists.proofs.InOrder.{in_order_formed, same_share}

@@ -13,8 +13,8 @@ use Rattle.cue_lists.specs.Records.{records_of}
 use Rattle.cue_lists.specs.Spelling.{list_records}
 use Rattle.cue_lists.specs.declared.head.Version.TheVariants as version
 use Rattle.cue_lists.specs.declared.lane.Lane.TheVariants.{Channel, Service}
-use Rattle.frame_scheduler.specs.Planned.{IsListPlaced, Placement, channel_pair, columns_of}
-use Rattle.frame_scheduler.proofs.ListDoublingLemmas.{columns_doubled}
+use Rattle.frame_carrier.specs.Planned.{IsListPlaced, Placement, channel_pair, columns_of}
+use Rattle.frame_carrier.proofs.ListDoublingLemmas.{columns_doubled}
 use Rattle.frame_carrier.specs.Carried.{AreBytePairs, IsBytePair}
 use Rattle.services_shown.specs.PlacedServices.{AreServicesPlaced}
 use Rattle.services_shown.proofs.DelayLemmas.{delays_sent}

@@ -2,7 +2,7 @@
 -- The verdict on a cue list: it is accepted, or it is refused with one status, and never both.
 use Rattle.std.specs.Prelude.{◌≡◌, ◌⊎◌, ℕ, List}
 use Rattle.cue_lists.specs.Listing.{Listing}
-use Rattle.frame_scheduler.specs.Planned.{Placement}
+use Rattle.frame_carrier.specs.Planned.{Placement}
 use Rattle.command_base.specs.declared.status.Status.{Status}
 use Rattle.cue_list_commands.specs.Accepted.{IsAccepted, IsRefused}
 

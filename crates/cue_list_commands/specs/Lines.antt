@@ -2,7 +2,7 @@
 -- The lines of `pairs`: one a frame, with the pairs of field 1 and of field 2.
 use Rattle.std.specs.Prelude.{ℕ, zero, suc, ◌/◌, ◌%◌, Option, Some, None, List, [], ◌∷◌, ◌++◌, codes}
 use Rattle.line21_codes.specs.declared.pairs.Pair.{Pair}
-use Rattle.frame_scheduler.specs.Columns.{Columns}
+use Rattle.frame_carrier.specs.Columns.{Columns}
 use Rattle.hex_digits.specs.HexDigits.{upper_hex_digit}
 
 -- a pair as four upper-case hex digits, or `----` where the frame has no slot of the field

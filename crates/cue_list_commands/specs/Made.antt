@@ -1,7 +1,7 @@
 -- Between crates: the program's answer stands on none of these definitions.
 -- The programme that is made of accepted bytes.
 use Rattle.std.specs.Prelude.{ℕ, List}
-use Rattle.frame_scheduler.specs.Columns.{Columns}
+use Rattle.frame_carrier.specs.Columns.{Columns}
 use Rattle.frame_carrier.specs.Framing.{Framing, HasFraming}
 use Rattle.frame_carrier.specs.declared.programme.Programme.{Programme}
 

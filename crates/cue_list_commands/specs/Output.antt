@@ -6,7 +6,7 @@ use Rattle.line21_codes.specs.declared.channels.Chan.TheVariants.{Cc1, Cc2, Cc3,
 use Rattle.cdp_packets.specs.Packets.{Frame}
 use Rattle.cue_lists.specs.AuthoredGrid.{IsSettled, authored_grid, blank}
 use Rattle.cue_lists.specs.Listing.{Listing}
-use Rattle.frame_scheduler.specs.Planned.{Placement, columns_of, share_in}
+use Rattle.frame_carrier.specs.Planned.{Placement, columns_of, share_in}
 use Rattle.frame_carrier.specs.Framing.{Framing, packets_of, words_of}
 use Rattle.services_shown.specs.Delays.{AreDelaysSent}
 use Rattle.services_shown.specs.Shares.{AreSharesKept}

@@ -4,8 +4,8 @@ use Rattle.std.specs.Prelude.{ℕ, List, Option, Result}
 use Rattle.cue_lists.specs.Listing.{Listing}
 use Rattle.cue_lists.specs.declared.fault.CueFault.{CueFault}
 use Rattle.cue_lists.specs.declared.fault.CueFault.TheVariants as fault
-use Rattle.frame_scheduler.specs.Frames.{GivesFrom, frames_left}
-use Rattle.frame_scheduler.specs.declared.frames.Plan.{Plan}
+use Rattle.frame_carrier.specs.Frames.{GivesFrom, frames_left}
+use Rattle.frame_carrier.specs.Plan.{Plan}
 use Rattle.frame_carrier.specs.declared.programme.Programme.{Programme}
 use Rattle.cue_list_commands.specs.Made.{IsProgrammeOf as IsProgrammeMade}
 use Rattle.cue_list_commands.specs.Output.{IsPlacedAs, framing_of}

@@ -8,8 +8,7 @@ ghost use Rattle.cue_list_commands.specs.Reads.{IsProgrammeOf, ReadsList, ReadsP
 use cc_base::Source;
 use command_base::{Place, Status, read_input};
 use cue_lists::{CueFault, CueList, check, parse};
-use frame_carrier::Programme;
-use frame_scheduler::{Plan, PlanFault, plan};
+use frame_carrier::{Plan, PlanFault, Programme, plan};
 use std::alloc::Global;
 
 /// Reads a cue list to its end and judges it: its bytes' number, its form and limits, its rules, its room. Gives its programme, or the status with which it is refused.

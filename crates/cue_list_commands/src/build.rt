@@ -6,8 +6,7 @@ use crate::accept::read_programme;
 use crate::{Makes, run_made};
 use cc_base::{Sink, Source};
 use command_base::Status;
-use frame_carrier::{Programme, Words};
-use frame_scheduler::Plan;
+use frame_carrier::{Plan, Programme, Words};
 use std::alloc::Global;
 
 /// `build`: the words of a cue list.

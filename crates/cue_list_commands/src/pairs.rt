@@ -10,8 +10,7 @@ use crate::lines::line_of;
 use crate::{Makes, run_made};
 use cc_base::{Put, Sink, Source};
 use command_base::Status;
-use frame_carrier::{Output, Programme};
-use frame_scheduler::{Frames, Plan};
+use frame_carrier::{Frames, Output, Plan, Programme};
 use std::alloc::Global;
 use text_output::Gathered;
 

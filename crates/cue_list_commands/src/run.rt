@@ -9,8 +9,7 @@ ghost use Rattle.command_base.specs.Realises.{RealisesAlone};
 
 use cc_base::{Put, Sink, Source};
 use command_base::Status;
-use frame_carrier::{Output, Programme};
-use frame_scheduler::Frames;
+use frame_carrier::{Frames, Output, Programme};
 use std::alloc::Global;
 
 /// A command that reads an input whole, judges it, and puts the frames that it makes of it.

@@ -11,8 +11,8 @@ use Rattle.lanes.specs.Placing.{IsPlaced}
 use Rattle.lanes.specs.FieldLane as alone
 use Rattle.lanes.specs.LaneEvents.{IsFree}
 use Rattle.lanes.specs.FieldPlan.{field_chunk_cue}
-use Rattle.frame_scheduler.specs.Planned.{LaneHasRoom}
-use Rattle.frame_scheduler.specs.SlotLists.{slot_cues}
+use Rattle.frame_carrier.specs.Planned.{LaneHasRoom}
+use Rattle.frame_carrier.specs.SlotLists.{slot_cues}
 use Rattle.lanes.specs.declared.chunk.FieldChunk.{FieldChunk}
 use Rattle.lanes.proofs.FieldLaneLemmas.{end_push as end_push_alone}
 use Rattle.dual_fields.specs.FieldSlots.{holds}

@@ -12,8 +12,8 @@ use Rattle.line21_author.specs.CueEvents.{channel_events}
 use Rattle.line21_author.specs.declared.event.Event.{Event}
 use Rattle.lanes.specs.LaneRoom.{AreOfCuesFrom}
 use Rattle.lanes.specs.LaneEvents.{event_at}
-use Rattle.frame_scheduler.specs.Planned.{authored_channel}
-use Rattle.frame_scheduler.specs.SlotLists.{slot_cues}
+use Rattle.frame_carrier.specs.Planned.{authored_channel}
+use Rattle.frame_carrier.specs.SlotLists.{slot_cues}
 use Rattle.dual_fields.specs.FieldSlots.{holds}
 use Rattle.dual_fields.proofs.TablesLemmas.{any_holds, holds_at}
 use Rattle.dual_plans.specs.Clashes.{HoldsFor, IsClash, IsFieldClash, IsLeast, IsLeastClash, NoSlotIsSharedUnlessCuesClash, earlier, is_no_later, list_events}

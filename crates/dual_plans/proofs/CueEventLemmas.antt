@@ -12,8 +12,8 @@ use Rattle.line21_author.specs.CueEvents.{channel_events, cue_events as events_o
 use Rattle.line21_author.specs.EventOrder.{AreApart, AreFrom}
 use Rattle.line21_author.specs.declared.event.Event.{Event}
 use Rattle.lanes.specs.LaneRoom.{AreInCueOrder, AreOfCuesFrom}
-use Rattle.frame_scheduler.specs.SlotLists.{slot_cues}
-use Rattle.frame_scheduler.proofs.EventsApartLemmas.{events_apart}
+use Rattle.frame_carrier.specs.SlotLists.{slot_cues}
+use Rattle.frame_carrier.proofs.EventsApartLemmas.{events_apart}
 use Rattle.dual_plans.specs.Clashes.{list_events}
 use Rattle.dual_plans.specs.CueEvents.{AreOrdered, BeginFrom, EventsAreThoseOfTheChannel, LieApart, event_cue, event_slots, events_from, numbered, own_events, slots_of}
 use Rattle.dual_plans.specs.declared.cue_event.CueEvent.{CueEvent}

@@ -4,7 +4,7 @@ use Rattle.line21_codes.specs.declared.channels.Chan.TheVariants.{Cc1, Cc3}
 use Rattle.line21_codes.specs.declared.pairs.Pair.{Pair}
 use Rattle.line21_slots.specs.Cadences.{cadence_of, slot_in}
 use Rattle.cue_lists.specs.Listing.{Listing}
-use Rattle.frame_scheduler.specs.Planned.{columns_of}
+use Rattle.frame_carrier.specs.Planned.{columns_of}
 use Rattle.services_shown.specs.OtherPairs.{HaveOtherPairs}
 use Rattle.services_shown.proofs.OtherPairsLemmas.{other_pairs}
 use Rattle.services_shown.proofs.PlacedBlocksLemmas.{placed_fit}

@@ -8,8 +8,8 @@ use Rattle.line21_author.specs.CueEvents.{channel_events}
 use Rattle.line21_author.specs.declared.event.Event.{Event}
 use Rattle.dual_plans.proofs.ClashLemmas.{none_shared}
 use Rattle.lanes.specs.LaneEvents.{event_at}
-use Rattle.frame_scheduler.specs.Planned.{authored_channel}
-use Rattle.frame_scheduler.specs.SlotLists.{slot_cues}
+use Rattle.frame_carrier.specs.Planned.{authored_channel}
+use Rattle.frame_carrier.specs.SlotLists.{slot_cues}
 use Rattle.lanes.specs.Timeline.{Timeline}
 use Rattle.lanes.specs.declared.planning.PlanFault.{PlanFault}
 use Rattle.dual_fields.specs.FieldSlots.{first_slots, second_slots}

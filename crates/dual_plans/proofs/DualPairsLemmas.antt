@@ -10,9 +10,9 @@ use Rattle.line21_author.specs.declared.unit.Unit.{Unit}
 use Rattle.line21_slots.specs.Cadences.{cadence_of, slot_in}
 use Rattle.frame_carrier.specs.Carried.{AreBytePairs, IsBytePair}
 use Rattle.lanes.specs.DoubledPairs.{IsDoubled}
-use Rattle.frame_scheduler.specs.SlotLists.{slot_cues, slots_in_list}
+use Rattle.frame_carrier.specs.SlotLists.{slot_cues, slots_in_list}
 use Rattle.lanes.specs.Timeline.{Timeline, column, slot}
-use Rattle.frame_scheduler.proofs.ListDoublingLemmas.{pairs_column}
+use Rattle.frame_carrier.proofs.ListDoublingLemmas.{pairs_column}
 use Rattle.dual_fields.specs.ChannelParts.{channel_parts}
 use Rattle.dual_fields.specs.Dual.{IsDual, Places}
 use Rattle.dual_fields.specs.Lanes.{whole}

@@ -5,7 +5,7 @@ use Rattle.line21_codes.specs.declared.channels.FieldNumber.{FieldNumber}
 use Rattle.line21_codes.specs.declared.channels.FieldNumber.TheVariants.{One, Two}
 use Rattle.line21_codes.specs.Channels.{field_of_channel}
 use Rattle.cue_lists.specs.Listing.{Listing}
-use Rattle.frame_scheduler.specs.Planned.{authored_channel}
+use Rattle.frame_carrier.specs.Planned.{authored_channel}
 use Rattle.dual_fields.specs.Shown.{state_at}
 use Rattle.dual_fields.specs.Dual.{HavePairs, ShowsBoth}
 use Rattle.dual_fields.proofs.DualLemmas.{both_seen}

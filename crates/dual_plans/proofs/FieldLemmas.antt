@@ -6,7 +6,7 @@ use Rattle.line21_codes.specs.declared.channels.Chan.{Chan}
 use Rattle.line21_slots.specs.Cadences.{cadence_of, slot_from}
 use Rattle.cue_lists.specs.Listing.{Listing}
 use Rattle.lanes.specs.LaneEvents.{event_at}
-use Rattle.frame_scheduler.specs.SlotLists.{slots_in_list}
+use Rattle.frame_carrier.specs.SlotLists.{slots_in_list}
 use Rattle.lanes.specs.declared.planning.PlanFault.{PlanFault}
 use Rattle.dual_fields.specs.FieldSlots.{second_slots}
 use Rattle.dual_fields.specs.Filled.{IsFault, IsFilled, slots_at}

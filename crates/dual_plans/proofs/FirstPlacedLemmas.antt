@@ -17,11 +17,11 @@ use Rattle.lanes.specs.declared.planning.PlanFault.{PlanFault}
 use Rattle.lanes.specs.declared.planning.PlanFault.TheVariants.{Memory, NoRoom}
 use Rattle.lanes.proofs.LaneRoomLemmas.{room_all}
 use Rattle.lanes.specs.ServicePlan.{PlannedService}
-use Rattle.frame_scheduler.specs.LaneSets.{IsFaultIn, IsFirstIn, IsServiceBelow, earlier_fault, fault_beside}
-use Rattle.frame_scheduler.specs.Planned.{LaneHasRoom}
-use Rattle.frame_scheduler.specs.ServicePlans.{AreServices}
-use Rattle.frame_scheduler.proofs.PlanLemmas.{far_roomy}
-use Rattle.frame_scheduler.proofs.ServicesLemmas.{below_roomy}
+use Rattle.frame_carrier.specs.LaneSets.{IsFaultIn, IsFirstIn, IsServiceBelow, earlier_fault, fault_beside}
+use Rattle.frame_carrier.specs.Planned.{LaneHasRoom}
+use Rattle.frame_carrier.specs.ServicePlans.{AreServices}
+use Rattle.frame_carrier.proofs.PlanLemmas.{far_roomy}
+use Rattle.frame_carrier.proofs.ServicesLemmas.{below_roomy}
 use Rattle.dual_fields.specs.Filled.{IsFault, IsFilled, slots_at}
 use Rattle.dual_fields.specs.Parts.{part_cue}
 use Rattle.dual_fields.specs.ResumedLane.{resumed_lane}

@@ -11,18 +11,18 @@ use Rattle.line21_slots.proofs.CadenceLemmas.{slot_from_first}
 use Rattle.cue_lists.specs.Listing.{Listing}
 use Rattle.cue_lists.specs.declared.lane.Lane.TheVariants.{Service}
 use Rattle.lanes.specs.ServicePlan.{PlannedService}
-use Rattle.frame_scheduler.specs.Blocks.{blocks_of}
-use Rattle.frame_scheduler.specs.Columns.{Columns}
-use Rattle.frame_scheduler.specs.Frames.{GivesFrom}
+use Rattle.frame_carrier.specs.Blocks.{blocks_of}
+use Rattle.frame_carrier.specs.Columns.{Columns}
+use Rattle.frame_carrier.specs.Frames.{GivesFrom}
 use Rattle.lanes.specs.LaneEvents.{event_at}
 use Rattle.lanes.specs.FieldPlan.{PlannedField, lane_pair}
-use Rattle.frame_scheduler.specs.Planned.{IsLanePlaced, authored_channel}
-use Rattle.frame_scheduler.specs.SlotLists.{slot_cues}
+use Rattle.frame_carrier.specs.Planned.{IsLanePlaced, authored_channel}
+use Rattle.frame_carrier.specs.SlotLists.{slot_cues}
 use Rattle.lanes.specs.Timeline.{Timeline, over, slot}
-use Rattle.frame_scheduler.specs.declared.frames.FrameBytes.{FrameBytes}
-use Rattle.frame_scheduler.specs.declared.frames.Plan.{Plan}
-use Rattle.frame_scheduler.proofs.LanesLemmas.{placement}
-use Rattle.frame_scheduler.proofs.PlanLemmas.{frames_of, planned_blocks, planned_start}
+use Rattle.frame_carrier.specs.FrameBytes.{FrameBytes}
+use Rattle.frame_carrier.specs.Plan.{Plan}
+use Rattle.frame_carrier.proofs.LanesLemmas.{placement}
+use Rattle.frame_carrier.proofs.PlanLemmas.{frames_of, planned_blocks, planned_start}
 use Rattle.dual_fields.specs.Filled.{IsFilled, resumes_at, slots_at}
 use Rattle.dual_fields.specs.declared.part.Part.{Part}
 use Rattle.dual_fields.specs.declared.place.Place.{Place}

@@ -5,10 +5,10 @@ use Rattle.line21_codes.specs.declared.channels.Chan.TheVariants.{Cc1, Cc3}
 use Rattle.line21_codes.specs.declared.pairs.Pair.{Pair}
 use Rattle.line21_slots.specs.Cadences.{cadence_of, slot_from}
 use Rattle.line21_slots.specs.declared.cadence.Cadence.{Cadence}
-use Rattle.frame_scheduler.specs.Columns.{Columns}
-use Rattle.frame_scheduler.proofs.NextFrameLemmas.{behind_at, given_is}
+use Rattle.frame_carrier.specs.Columns.{Columns}
+use Rattle.frame_carrier.proofs.NextFrameLemmas.{behind_at, given_is}
 use Rattle.lanes.specs.FieldPlan.{PlannedField, behind_frame, given_in, lane_pair}
-use Rattle.frame_scheduler.specs.declared.frames.FrameBytes.{FrameBytes}
+use Rattle.frame_carrier.specs.FrameBytes.{FrameBytes}
 use Rattle.dual_plans.specs.Beside.{beside}
 use Rattle.dual_plans.specs.SecondLanes.{LaysBoth}
 use Rattle.dual_plans.specs.declared.second_lanes.SecondLanes.{SecondLanes}

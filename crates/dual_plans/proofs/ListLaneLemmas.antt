@@ -17,8 +17,8 @@ use Rattle.line21_author.specs.declared.event.Event.{Event}
 use Rattle.line21_author.specs.declared.unit.Unit.{Unit}
 use Rattle.line21_author.proofs.SlotSequenceLemmas.{IsSoundInSlots, all_sound_in_slots}
 use Rattle.lanes.specs.ChannelLane.{field_cue_chunks}
-use Rattle.frame_scheduler.specs.SlotLists.{slot_cues, slots_in_list}
-use Rattle.frame_scheduler.proofs.SlotLemmas.{slot_sequence}
+use Rattle.frame_carrier.specs.SlotLists.{slot_cues, slots_in_list}
+use Rattle.frame_carrier.proofs.SlotLemmas.{slot_sequence}
 use Rattle.dual_fields.specs.Agreeing.{EndsBy}
 use Rattle.dual_fields.specs.declared.part.Part.{Part}
 use Rattle.dual_plans.specs.Placeable.{ArePlaceable, AreWritable}

@@ -7,7 +7,7 @@ use Rattle.cue_lists.specs.Listing.{Listing}
 use Rattle.dual_plans.specs.Clashes.{ALeastClashIsThereOrNone, HoldsFor, IsClash, IsFieldClash, IsLeast, list_events}
 use Rattle.dual_plans.specs.declared.clash.Clash.{Clash}
 use Rattle.dual_plans.specs.declared.cue_event.CueEvent.{CueEvent}
-use Rattle.frame_scheduler.specs.Planned.{authored_channel}
+use Rattle.frame_carrier.specs.Planned.{authored_channel}
 
 abbrev pub Decided : Type 0 → Type 0
 Decided P = P ⊎ (P → ⊥)

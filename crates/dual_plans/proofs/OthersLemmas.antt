@@ -1,6 +1,6 @@
 -- Second lanes put other pairs into frames, and leave their blocks.
 use Rattle.std.proofs.Common.{◌≡◌, ◌∙◌, ap, is_some, Option, Some, None, refl}
-use Rattle.frame_scheduler.specs.declared.frames.FrameBytes.{FrameBytes}
+use Rattle.frame_carrier.specs.FrameBytes.{FrameBytes}
 use Rattle.line21_codes.specs.declared.pairs.Pair.{Pair}
 use Rattle.dual_plans.specs.Beside.{beside}
 use Rattle.dual_plans.specs.Others.{LanesPutOtherPairs}

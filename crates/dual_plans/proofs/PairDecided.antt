@@ -15,11 +15,11 @@ use Rattle.lanes.specs.Placing.{IsEarliest}
 use Rattle.lanes.specs.declared.planning.PlanFault.TheVariants.{NoRoom}
 use Rattle.lanes.proofs.LaneRoomLemmas.{room_all}
 use Rattle.lanes.proofs.PlacingLemmas.{earliest_same}
-use Rattle.frame_scheduler.specs.Blocks.{service_block}
-use Rattle.frame_scheduler.specs.Planned.{IsFirstWithoutRoom, IsLanePlaced, IsListPlaced, LaneHasRoom, Placement, authored_channel, chunks_in, frame_blocks, service_bytes, service_lane_of, services}
-use Rattle.frame_scheduler.specs.SlotLists.{slot_cues}
-use Rattle.frame_scheduler.proofs.LanesLemmas.{off_room, service_room}
-use Rattle.frame_scheduler.proofs.RoomDecided.{list_decided}
+use Rattle.frame_carrier.specs.Blocks.{service_block}
+use Rattle.frame_carrier.specs.Planned.{IsFirstWithoutRoom, IsLanePlaced, IsListPlaced, LaneHasRoom, Placement, authored_channel, chunks_in, frame_blocks, service_bytes, service_lane_of, services}
+use Rattle.frame_carrier.specs.SlotLists.{slot_cues}
+use Rattle.frame_carrier.proofs.LanesLemmas.{off_room, service_room}
+use Rattle.frame_carrier.proofs.RoomDecided.{list_decided}
 use Rattle.dual_fields.specs.FieldSlots.{holds}
 use Rattle.dual_fields.specs.Filled.{IsFilled, resumes_at, slots_at}
 use Rattle.dual_fields.specs.Parts.{IsBegun, part_cue}

@@ -24,9 +24,9 @@ use Rattle.line21_author.proofs.SlotSequenceLemmas.{AreInSlots}
 use Rattle.lanes.specs.LaneEvents.{event_at}
 use Rattle.lanes.specs.FieldPlan.{field_chunk_cue}
 use Rattle.lanes.specs.declared.chunk.FieldChunk.{FieldChunk}
-use Rattle.frame_scheduler.specs.SlotLists.{slot_cues, slots_in_list}
+use Rattle.frame_carrier.specs.SlotLists.{slot_cues, slots_in_list}
 use Rattle.lanes.proofs.ChannelOrderLemmas.{channel_in_order}
-use Rattle.frame_scheduler.proofs.SlotLemmas.{slot_cues_formed, slot_sequence}
+use Rattle.frame_carrier.proofs.SlotLemmas.{slot_cues_formed, slot_sequence}
 use Rattle.lanes.specs.LaneRoom.{AreInCueOrder, AreOfCuesFrom}
 use Rattle.dual_fields.specs.Parts.{BeginWithFirst, IsBegun, part_cue}
 use Rattle.dual_fields.specs.declared.part.Part.{Part}

@@ -5,7 +5,7 @@ use Rattle.line21_codes.specs.declared.channels.FieldNumber.{FieldNumber}
 use Rattle.line21_codes.specs.declared.channels.FieldNumber.TheVariants.{One, Two}
 use Rattle.lanes.specs.declared.planning.PlanFault.{PlanFault}
 use Rattle.lanes.specs.declared.planning.PlanFault.TheVariants.{Memory, NoRoom}
-use Rattle.frame_scheduler.specs.LaneSets.{earlier_fault}
+use Rattle.frame_carrier.specs.LaneSets.{earlier_fault}
 use Rattle.dual_plans.specs.FieldFaults.{IsFaultOf, IsFirstOfFields}
 
 -- up to the cue a field has no room, and up to each earlier cue it has

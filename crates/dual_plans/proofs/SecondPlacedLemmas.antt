@@ -11,14 +11,14 @@ use Rattle.cue_lists.specs.Listing.{Listing}
 use Rattle.lanes.specs.LaneRoom.{AreInCueOrder, HasRoom}
 use Rattle.lanes.specs.declared.planning.PlanFault.{PlanFault}
 use Rattle.lanes.specs.declared.planning.PlanFault.TheVariants.{NoRoom}
-use Rattle.frame_scheduler.specs.LaneSets.{fault_beside}
-use Rattle.frame_scheduler.proofs.PlanLemmas.{frames_of}
+use Rattle.frame_carrier.specs.LaneSets.{fault_beside}
+use Rattle.frame_carrier.proofs.PlanLemmas.{frames_of}
 use Rattle.lanes.specs.Placing.{IsEarliest}
 use Rattle.dual_fields.specs.Filled.{IsFault, IsFilled, slots_at}
 use Rattle.dual_fields.specs.Parts.{part_cue}
 use Rattle.dual_fields.specs.ResumedLane.{resumed_lane}
 use Rattle.dual_fields.specs.declared.place.Place.{Place}
-use Rattle.frame_scheduler.specs.Planned.{authored_channel}
+use Rattle.frame_carrier.specs.Planned.{authored_channel}
 use Rattle.dual_plans.specs.DualAnswer.{HasRoomBeside, IsDualFault}
 use Rattle.dual_plans.specs.DualParts.{IsFirstPlaced, IsSecondFault, slots_placed}
 use Rattle.dual_plans.specs.FieldPlaces.{GoTogether, first_units, second_units, slots_for_first, slots_for_second}

@@ -24,10 +24,10 @@ use Rattle.lanes.specs.ChannelLane.{channel_chunks}
 use Rattle.lanes.specs.LaneDoubling.{AreEnded}
 use Rattle.lanes.specs.LaneEvents.{AreOver, event_at}
 use Rattle.lanes.specs.LaneTimeline.{lane_timeline, stands}
-use Rattle.frame_scheduler.specs.SlotLists.{slot_cues, slots_in_list}
+use Rattle.frame_carrier.specs.SlotLists.{slot_cues, slots_in_list}
 use Rattle.lanes.proofs.DoublingLemmas.{at_event, at_unit}
-use Rattle.frame_scheduler.proofs.ListDoublingLemmas.{channel_ended}
-use Rattle.frame_scheduler.proofs.SlotLemmas.{slot_cues_formed, slot_sequence}
+use Rattle.frame_carrier.proofs.ListDoublingLemmas.{channel_ended}
+use Rattle.frame_carrier.proofs.SlotLemmas.{slot_cues_formed, slot_sequence}
 use Rattle.dual_fields.proofs.CaptionedLemmas.{channel_all}
 use Rattle.dual_fields.specs.declared.part.Part.{Part}
 use Rattle.dual_fields.specs.ChannelParts.{channel_parts}

@@ -10,10 +10,10 @@ use Rattle.line21_author.specs.CueEvents.{channel_events}
 use Rattle.line21_author.specs.EventOrder.{AreApart, AreFrom}
 use Rattle.line21_author.specs.declared.event.Event.{Event}
 use Rattle.lanes.specs.LaneEvents.{event_at}
-use Rattle.frame_scheduler.specs.SlotLists.{slot_cues, slots_in_list}
+use Rattle.frame_carrier.specs.SlotLists.{slot_cues, slots_in_list}
 use Rattle.lanes.specs.Timeline.{Timeline}
-use Rattle.frame_scheduler.proofs.EventsApartLemmas.{events_apart}
-use Rattle.frame_scheduler.proofs.SlotLemmas.{slot_cues_formed, slot_sequence}
+use Rattle.frame_carrier.proofs.EventsApartLemmas.{events_apart}
+use Rattle.frame_carrier.proofs.SlotLemmas.{slot_cues_formed, slot_sequence}
 use Rattle.dual_fields.specs.FieldSlots.{first_slots, holds}
 use Rattle.dual_fields.specs.Filled.{IsFilled, resumes_at, slots_at}
 use Rattle.dual_fields.specs.ResumedLane.{Stand}

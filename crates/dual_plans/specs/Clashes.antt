@@ -7,8 +7,8 @@ use Rattle.line21_codes.specs.declared.channels.FieldNumber.{FieldNumber}
 use Rattle.cue_lists.specs.Listing.{Listing}
 use Rattle.line21_author.specs.CueEvents.{channel_events}
 use Rattle.lanes.specs.LaneEvents.{event_at}
-use Rattle.frame_scheduler.specs.Planned.{authored_channel}
-use Rattle.frame_scheduler.specs.SlotLists.{slot_cues}
+use Rattle.frame_carrier.specs.Planned.{authored_channel}
+use Rattle.frame_carrier.specs.SlotLists.{slot_cues}
 use Rattle.dual_fields.specs.FieldSlots.{holds}
 use Rattle.dual_plans.specs.CueEvents.{events_from}
 use Rattle.dual_plans.specs.declared.clash.Clash.{Clash}

@@ -5,9 +5,9 @@ use Rattle.line21_codes.specs.declared.channels.FieldNumber.{FieldNumber}
 use Rattle.cue_lists.specs.Listing.{Listing}
 use Rattle.cue_lists.specs.declared.lane.Lane.TheVariants.{Service}
 use Rattle.dual_plans.specs.Clashes.{IsFieldClash, IsLeastClash}
-use Rattle.frame_scheduler.specs.Frames.{GivesFrom, frames_left}
-use Rattle.frame_scheduler.specs.declared.frames.Plan.{Plan}
-use Rattle.frame_scheduler.specs.Planned.{IsLanePlaced, LaneHasRoom, authored_channel}
+use Rattle.frame_carrier.specs.Frames.{GivesFrom, frames_left}
+use Rattle.frame_carrier.specs.Plan.{Plan}
+use Rattle.frame_carrier.specs.Planned.{IsLanePlaced, LaneHasRoom, authored_channel}
 use Rattle.lanes.specs.LaneRoom.{HasRoom}
 use Rattle.lanes.specs.Placing.{IsEarliest}
 use Rattle.frame_carrier.specs.Overlays.{GivesOverlaid}

@@ -1,7 +1,7 @@
 -- Between crates: the program's answer stands on none of these definitions.
 -- The service blocks of the frames of two lists are those of the first list alone.
 use Rattle.cue_lists.specs.Listing.{Listing}
-use Rattle.frame_scheduler.specs.Planned.{columns_of}
+use Rattle.frame_carrier.specs.Planned.{columns_of}
 use Rattle.services_shown.specs.OtherPairs.{AreFitAlike}
 use Rattle.dual_plans.specs.DualPlacement.{DualPlacement, IsDualPlaced, dual_columns}
 use Rattle.dual_plans.specs.FieldPlaces.{GoTogether}

@@ -6,7 +6,7 @@ use Rattle.line21_codes.specs.declared.channels.Chan.TheVariants.{Cc1, Cc3}
 use Rattle.line21_codes.specs.declared.channels.FieldNumber.{FieldNumber}
 use Rattle.line21_codes.specs.declared.channels.FieldNumber.TheVariants.{One, Two}
 use Rattle.cue_lists.specs.Listing.{Listing}
-use Rattle.frame_scheduler.specs.ServicePlans.{AreServicesPlanned, shared_below}
+use Rattle.frame_carrier.specs.ServicePlans.{AreServicesPlanned, shared_below}
 use Rattle.lanes.specs.declared.planning.PlanFault.{PlanFault}
 use Rattle.dual_fields.specs.Filled.{IsFilled, slots_at}
 use Rattle.dual_plans.specs.DualAnswer.{FieldHasRoom, HasRoomBeside, IsFirstWithout}

@@ -9,9 +9,9 @@ use Rattle.line21_codes.specs.declared.pairs.Pair.{Pair}
 use Rattle.line21_slots.specs.Cadences.{cadence_of, slot_in}
 use Rattle.cue_lists.specs.Listing.{Listing}
 use Rattle.cue_lists.specs.declared.lane.Lane.TheVariants.{Service}
-use Rattle.frame_scheduler.specs.Columns.{Columns}
-use Rattle.frame_scheduler.specs.Planned.{IsLanePlaced, Placement, authored_channel, frame_blocks}
-use Rattle.frame_scheduler.specs.SlotLists.{slot_cues}
+use Rattle.frame_carrier.specs.Columns.{Columns}
+use Rattle.frame_carrier.specs.Planned.{IsLanePlaced, Placement, authored_channel, frame_blocks}
+use Rattle.frame_carrier.specs.SlotLists.{slot_cues}
 use Rattle.lanes.specs.Timeline.{slot}
 use Rattle.dual_fields.specs.Dual.{Places}
 use Rattle.dual_fields.specs.Seen.{field_timeline}

@@ -7,8 +7,8 @@ use Rattle.line21_codes.specs.Channels.{field_of_channel}
 use Rattle.cue_lists.specs.Listing.{IsFormed, Listing}
 use Rattle.cue_lists.specs.Rules.{IsRuled}
 use Rattle.dual_plans.specs.Clashes.{IsFieldClash}
-use Rattle.frame_scheduler.specs.Planned.{authored_channel}
-use Rattle.frame_scheduler.specs.SlotLists.{slot_cues}
+use Rattle.frame_carrier.specs.Planned.{authored_channel}
+use Rattle.frame_carrier.specs.SlotLists.{slot_cues}
 use Rattle.lanes.specs.Placing.{IsEarliest}
 use Rattle.dual_fields.specs.FieldSlots.{first_slots, second_slots}
 use Rattle.dual_fields.specs.ResumedLane.{Stand, resumed_lane}

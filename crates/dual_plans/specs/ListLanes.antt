@@ -7,7 +7,7 @@ use Rattle.line21_codes.specs.Reading.{code_of}
 use Rattle.line21_codes.specs.Writable.{IsWritable}
 use Rattle.cue_lists.specs.Listing.{Listing}
 use Rattle.line21_author.specs.CueEvents.{channel_events}
-use Rattle.frame_scheduler.specs.SlotLists.{slot_cues}
+use Rattle.frame_carrier.specs.SlotLists.{slot_cues}
 use Rattle.dual_fields.specs.Agreeing.{EndsBy}
 use Rattle.dual_plans.specs.Placeable.{ArePlaceable, AreWritable}
 use Rattle.dual_plans.specs.SecondChannel.{second_events}

@@ -12,7 +12,7 @@ use Rattle.cue_lists.specs.declared.cue.Cue.{Cue}
 use Rattle.line21_author.specs.CueEvents.{channel_events}
 use Rattle.line21_author.specs.declared.event.Event.{Event}
 use Rattle.lanes.specs.LaneEvents.{event_at}
-use Rattle.frame_scheduler.specs.SlotLists.{slot_cues}
+use Rattle.frame_carrier.specs.SlotLists.{slot_cues}
 use Rattle.lanes.specs.LaneRoom.{AreInCueOrder}
 use Rattle.dual_fields.specs.Parts.{BeginWithFirst, IsBegun, part_cue}
 use Rattle.dual_fields.specs.declared.part.Part.{Part}

@@ -3,7 +3,7 @@
 use Rattle.line21_codes.specs.declared.channels.Chan.{Chan}
 use Rattle.cue_lists.specs.Listing.{Listing}
 use Rattle.lanes.specs.LaneEvents.{event_at}
-use Rattle.frame_scheduler.specs.SlotLists.{slots_in_list}
+use Rattle.frame_carrier.specs.SlotLists.{slots_in_list}
 use Rattle.dual_fields.specs.FieldSlots.{first_slots}
 use Rattle.dual_fields.specs.Filled.{IsFilled}
 use Rattle.dual_plans.specs.ListLanes.{HasUnitsWithin, IsFirstLane, IsSecondLane}

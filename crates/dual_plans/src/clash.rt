@@ -3,7 +3,7 @@ ghost use Rattle.cue_lists.specs.Listing.{IsFormed};
 ghost use Rattle.cue_lists.specs.Rules.{IsRuled};
 ghost use Rattle.dual_plans.specs.Clashes.{IsClash, IsFieldClash, IsLeast, earlier, is_no_later, list_events};
 ghost use Rattle.dual_plans.specs.CueEvents.{AreOrdered};
-ghost use Rattle.frame_scheduler.specs.Planned.{authored_channel};
+ghost use Rattle.frame_carrier.specs.Planned.{authored_channel};
 
 use crate::cue_event::{CueEvent, cue_events};
 use cue_lists::CueList;

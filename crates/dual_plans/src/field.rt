@@ -1,6 +1,6 @@
 ghost use Rattle.std.specs.Prelude.{◌≡◌, IfErr, IfOk};
 ghost use Rattle.cue_lists.specs.Rules.{IsRuled};
-ghost use Rattle.frame_scheduler.specs.SlotLists.{slots_in_list};
+ghost use Rattle.frame_carrier.specs.SlotLists.{slots_in_list};
 ghost use Rattle.dual_fields.specs.Filled.{IsFault, IsFilled, slots_at};
 ghost use Rattle.dual_plans.specs.FieldPlaces.{first_units, second_units, slots_for_first, slots_for_second};
 ghost use Rattle.dual_plans.specs.OtherList.{AreAlike};

@@ -2,7 +2,7 @@ ghost use Rattle.std.specs.Prelude.{IfOk};
 ghost use Rattle.cue_lists.specs.Listing.{IsFormed};
 ghost use Rattle.cue_lists.specs.Rules.{IsRuled};
 ghost use Rattle.dual_plans.specs.ListLanes.{HasUnitsWithin, IsFirstLane, IsSecondLane, IsWritableLane};
-ghost use Rattle.frame_scheduler.specs.SlotLists.{slots_in_list};
+ghost use Rattle.frame_carrier.specs.SlotLists.{slots_in_list};
 
 use crate::{channel_parts, second_events, second_parts};
 use cue_lists::CueList;

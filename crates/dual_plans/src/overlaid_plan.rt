@@ -1,11 +1,10 @@
 ghost use Rattle.std.specs.Prelude.{◌≡◌, ◌≤◌};
-ghost use Rattle.frame_scheduler.specs.Frames.{frames_left};
+ghost use Rattle.frame_carrier.specs.Frames.{frames_left};
 ghost use Rattle.frame_carrier.specs.OverlaidFrames.{frames_under, overlay_of};
 ghost use Rattle.dual_plans.specs.SecondLanes.{lanes_last_for};
 
 use crate::second_lanes::SecondLanes;
-use frame_carrier::Overlaid;
-use frame_scheduler::Plan;
+use frame_carrier::{Overlaid, Plan};
 
 /// The frames of a plan with second lanes.
 pub type Dual = Overlaid<Plan, SecondLanes>;

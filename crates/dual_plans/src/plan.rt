@@ -13,7 +13,7 @@ use crate::placed::placed_lane;
 use crate::{Clash, Dual, SecondLanes, dual, field_clash};
 use cue_lists::CueList;
 use dual_fields::Place;
-use frame_scheduler::{Plan, fault_beside, placed_services};
+use frame_carrier::{Plan, fault_beside, placed_services};
 use lanes::{PlacedService, PlanFault};
 use line21_codes::Chan;
 use std::alloc::{AllocError, Global};

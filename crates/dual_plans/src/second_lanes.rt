@@ -3,8 +3,7 @@ ghost use Rattle.lanes.specs.FieldPlan.{behind_frame, given_in};
 ghost use Rattle.dual_plans.specs.Beside.{beside};
 
 use cc_base::Rate;
-use frame_carrier::Overlay;
-use frame_scheduler::FrameBytes;
+use frame_carrier::{FrameBytes, Overlay};
 use lanes::PlacedField;
 use line21_codes::{Chan, Pair};
 use line21_slots::Cadence;

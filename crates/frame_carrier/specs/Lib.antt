@@ -4,11 +4,17 @@ pub use Rattle.frame_scheduler.specs.Chunks
 pub use Rattle.frame_scheduler.specs.Columns
 pub use Rattle.frame_scheduler.specs.DoubledPairs
 pub use Rattle.frame_scheduler.specs.End
+pub use Rattle.frame_scheduler.specs.Frames
+pub use Rattle.frame_scheduler.specs.LaneSets
+pub use Rattle.frame_scheduler.specs.Placing
 pub use Rattle.frame_scheduler.specs.Planned
 pub use Rattle.frame_scheduler.specs.ServiceBytes
 pub use Rattle.frame_scheduler.specs.ServiceChunks
+pub use Rattle.frame_scheduler.specs.ServicePlans
+pub use Rattle.frame_scheduler.specs.ServiceRoom
 pub use Rattle.frame_scheduler.specs.SlotLists
 pub use Rattle.frame_scheduler.specs.declared.frames.FrameBytes
+pub use Rattle.frame_scheduler.specs.declared.frames.Plan
 pub use Rattle.words_files.specs.Received
 pub mod FrameTriplets
 pub mod Carrying

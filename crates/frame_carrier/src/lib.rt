@@ -8,6 +8,9 @@ pub use crate::overlaid::Overlaid;
 pub use crate::overlay::Overlay;
 pub use crate::programme::Programme;
 pub use crate::put::{Output, Words, put_words};
+pub use frame_scheduler::{
+    FrameBytes, Frames, Plan, PlanFault, fault_beside, placed_services, plan,
+};
 
 mod carrier;
 pub mod laws;

@@ -34,10 +34,9 @@ use Rattle.insert_commands.specs.Captions.{captions_of}
 use Rattle.insert_commands.specs.ListCaptions.{GivesCaptions}
 use Rattle.words_reading.proofs.PacketEndLemmas.{not_longer}
 use Rattle.words_reading.proofs.RefusedLemmas.{frames_up_to}
-use Rattle.words_reading.proofs.PacketWayLemmas.{ends_caption, ends_foreign, read_caption, read_foreign, read_still, spelled_rest}
-use Rattle.words_reading.proofs.PacketWayLemmas.{may_follow as packets_follow}
+use Rattle.words_reading.proofs.PacketWayLemmas.{ends_caption, ends_foreign, read_caption, read_foreign, read_still, spelled_rest, may_follow as packets_follow}
 use Rattle.words_reading.specs.OpenPackets.{EndsCaption, HasRead, MayFollow, ReadsFront, RefusesWord, open_bytes}
-use Rattle.frame_scheduler.specs.declared.frames.Plan.{Plan}
+use Rattle.frame_carrier.specs.Plan.{Plan}
 use Rattle.insert_commands.specs.declared.captions.Captions.{Captions}
 use Rattle.insert_commands.specs.declared.inserting.Halt.{Halt}
 use Rattle.insert_commands.specs.declared.inserting.Inserting.{Inserting}

@@ -4,8 +4,8 @@ use Rattle.std.specs.Prelude.{ℕ, nat_lt, if◌then◌else◌, List}
 use Rattle.cc_data.specs.declared.triplet.Triplet.{Triplet}
 use Rattle.frame_carrier.specs.Carrying.{channel_packet_of}
 use Rattle.frame_carrier.specs.FrameTriplets.{frame_triplets}
-use Rattle.frame_scheduler.specs.Columns.{Columns}
-use Rattle.frame_scheduler.specs.End.{silent_frame}
+use Rattle.frame_carrier.specs.Columns.{Columns}
+use Rattle.frame_carrier.specs.End.{silent_frame}
 use Rattle.frame_carrier.specs.Framing.{Framing}
 
 -- what every frame carries: those from the programme's end on are without captions

@@ -19,7 +19,7 @@ use Rattle.insert_commands.specs.Captions.{captions_of}
 use Rattle.insert_commands.specs.InsertVerdict.{IsHalt, SaysInserted}
 use Rattle.insert_commands.specs.ListCaptions.{GivesCaptions}
 use Rattle.words_reading.specs.OpenPackets.{HasRead, HasReadPackets, open_bytes}
-use Rattle.frame_scheduler.specs.declared.frames.Plan.{Plan}
+use Rattle.frame_carrier.specs.Plan.{Plan}
 use Rattle.insert_commands.specs.declared.captions.Captions.{Captions}
 use Rattle.insert_commands.specs.declared.inserting.Halt.{Halt}
 use Rattle.insert_commands.specs.declared.inserting.Halt.TheVariants as halt

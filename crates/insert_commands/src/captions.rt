@@ -6,8 +6,7 @@ ghost use Rattle.insert_commands.specs.ListCaptions.{GivesFramed, GivesPlanned};
 use arrayvec::ArrayVec;
 use cc_base::Rate;
 use cc_data::Triplet;
-use frame_carrier::{Carrier, Programme};
-use frame_scheduler::{FrameBytes, Frames};
+use frame_carrier::{Carrier, FrameBytes, Frames, Programme};
 
 /// The captions of a programme, frame by frame.
 #[derive(Drop)]

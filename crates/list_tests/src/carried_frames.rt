@@ -1,7 +1,6 @@
 use arrayvec::ArrayVec;
 use cc_base::Rate;
-use frame_carrier::Carrier;
-use frame_scheduler::FrameBytes;
+use frame_carrier::{Carrier, FrameBytes};
 use line21_codes::Pair;
 
 /// A pair that sends nothing.

@@ -1,6 +1,5 @@
 use arrayvec::ArrayVec;
-use frame_carrier::{Overlaid, Overlay};
-use frame_scheduler::{FrameBytes, Frames};
+use frame_carrier::{FrameBytes, Frames, Overlaid, Overlay};
 use line21_codes::Pair;
 use std::test::Fail;
 

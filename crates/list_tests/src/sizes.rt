@@ -1,5 +1,5 @@
 use cue_lists::{check, parse};
-use frame_scheduler::{Plan, placed_services};
+use frame_carrier::{Plan, placed_services};
 use lanes::field_cursor::Cursor;
 use lanes::{FieldChunk, FieldLane, PlacedField, PlacedService, PlacedUnit};
 use line21_author::Event;

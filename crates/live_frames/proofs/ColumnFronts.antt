@@ -21,12 +21,12 @@ use Rattle.lanes.specs.CueSlots.{cues_in_slots, timed_in_slots}
 use Rattle.lanes.proofs.SlotSequenceLemmas.{IsSoundInSlots, all_sound_in_slots}
 use Rattle.lanes.proofs.CaptionsKept.{captions_kept}
 use Rattle.lanes.specs.ChannelLane.{IsChannelPlaced, channel_slot}
-use Rattle.frame_scheduler.specs.Blocks.{service_block}
-use Rattle.frame_scheduler.specs.Columns.{Columns}
-use Rattle.frame_scheduler.specs.Planned.{IsLanePlaced, IsListPlaced, Placement, channel_pair, columns_of, frame_blocks, service_bytes, services, share_in}
-use Rattle.frame_scheduler.specs.SlotLists.{slot_cues, slots_in_list}
-use Rattle.frame_scheduler.specs.declared.frames.FrameBytes.{FrameBytes}
-use Rattle.frame_scheduler.proofs.SlotLemmas.{slot_sequence}
+use Rattle.frame_carrier.specs.Blocks.{service_block}
+use Rattle.frame_carrier.specs.Columns.{Columns}
+use Rattle.frame_carrier.specs.Planned.{IsLanePlaced, IsListPlaced, Placement, channel_pair, columns_of, frame_blocks, service_bytes, services, share_in}
+use Rattle.frame_carrier.specs.SlotLists.{slot_cues, slots_in_list}
+use Rattle.frame_carrier.specs.FrameBytes.{FrameBytes}
+use Rattle.frame_carrier.proofs.SlotLemmas.{slot_sequence}
 use Rattle.frame_carrier.specs.Carrying.{channel_packet, channel_packet_of, column_bytes, frame_bytes, packet_count, packets_before}
 use Rattle.live_frames.specs.Longer.{FrameFrontIsKept, WordFrontIsKept, WordsShareFront, longer}
 use Rattle.live_frames.proofs.FieldFronts.{slots_kept}

@@ -11,11 +11,11 @@ use Rattle.cue_lists.specs.Rules.{IsRuled}
 use Rattle.cue_lists.specs.declared.cue.Cue.{Cue}
 use Rattle.frame_carrier.specs.Carrying.{IsAt, channel_packet, channel_packet_of, column_bytes, frame_bytes, packet_count, packets_before}
 use Rattle.frame_carrier.specs.declared.carrier.Carrier.{Carrier}
-use Rattle.frame_scheduler.specs.Columns.{Columns}
-use Rattle.frame_scheduler.specs.Frames.{GivesFrom, PlanAnswer, frames_left}
-use Rattle.frame_scheduler.specs.Planned.{IsListPlaced, Placement, columns_of}
-use Rattle.frame_scheduler.specs.declared.frames.FrameBytes.{FrameBytes}
-use Rattle.frame_scheduler.specs.declared.frames.Plan.{Plan}
+use Rattle.frame_carrier.specs.Columns.{Columns}
+use Rattle.frame_carrier.specs.Frames.{GivesFrom, PlanAnswer, frames_left}
+use Rattle.frame_carrier.specs.Planned.{IsListPlaced, Placement, columns_of}
+use Rattle.frame_carrier.specs.FrameBytes.{FrameBytes}
+use Rattle.frame_carrier.specs.Plan.{Plan}
 use Rattle.live_frames.specs.LaneFronts.{AreLoadedFrom}
 use Rattle.live_frames.specs.Longer.{IsPlacedLonger, longer}
 use Rattle.live_frames.proofs.ColumnFronts.{frame_front_kept, packets_same, word_front_kept, words_parts}

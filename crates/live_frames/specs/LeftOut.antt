@@ -4,9 +4,9 @@ use Rattle.std.specs.Prelude.{◌≡◌, ℕ, ◌<◌, ◌≤◌, List, [], ◌�
 use Rattle.cue_lists.specs.Listing.{Listing, most_cues}
 use Rattle.cue_lists.specs.Rules.{HasFault, IsRuled}
 use Rattle.cue_lists.specs.declared.cue.Cue.{Cue}
-use Rattle.frame_scheduler.specs.Frames.{PlanAnswer}
-use Rattle.frame_scheduler.specs.Planned.{IsFirstWithoutRoom}
-use Rattle.frame_scheduler.specs.declared.frames.Plan.{Plan}
+use Rattle.frame_carrier.specs.Frames.{PlanAnswer}
+use Rattle.frame_carrier.specs.Planned.{IsFirstWithoutRoom}
+use Rattle.frame_carrier.specs.Plan.{Plan}
 use Rattle.live_frames.specs.declared.live_fault.LiveFault.{LiveFault}
 use Rattle.live_frames.specs.declared.live_fault.LiveFault.TheVariants as fault
 

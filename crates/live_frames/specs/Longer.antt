@@ -4,7 +4,7 @@ use Rattle.std.specs.Prelude.{◌≡◌, ℕ, ◌<◌, ◌≤◌, List, ◌++◌
 use Rattle.cue_lists.specs.Listing.{IsFormed, Listing}
 use Rattle.cue_lists.specs.Rules.{IsRuled}
 use Rattle.cue_lists.specs.declared.cue.Cue.{Cue}
-use Rattle.frame_scheduler.specs.Planned.{IsListPlaced, Placement, columns_of}
+use Rattle.frame_carrier.specs.Planned.{IsListPlaced, Placement, columns_of}
 use Rattle.frame_carrier.specs.Carrying.{column_bytes}
 use Rattle.live_frames.specs.LaneFronts.{AreLoadedFrom}
 

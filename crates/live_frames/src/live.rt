@@ -2,16 +2,15 @@ ghost use Rattle.std.specs.Prelude.{◌≡◌, ◌+◌, ◌-◌, ◌^◌, ◌<�
 ghost use Rattle.cue_lists.specs.Cues.{IsCueFormed};
 ghost use Rattle.cue_lists.specs.Listing.{Listing};
 ghost use Rattle.cue_lists.specs.Rules.{IsRuled};
-ghost use Rattle.frame_scheduler.specs.Columns.{Columns};
-ghost use Rattle.frame_scheduler.specs.Frames.{GivesFrom, PlanAnswer, frames_left};
+ghost use Rattle.frame_carrier.specs.Columns.{Columns};
+ghost use Rattle.frame_carrier.specs.Frames.{GivesFrom, PlanAnswer, frames_left};
 ghost use Rattle.live_frames.specs.LeftOut.{Judges};
 
 use crate::live_fault::LiveFault;
 use arrayvec::ArrayVec;
 use cue_lists::list::MOST_CUES;
 use cue_lists::{Cue, CueList, check};
-use frame_carrier::Carrier;
-use frame_scheduler::{Frames, Plan, PlanFault, plan};
+use frame_carrier::{Carrier, Frames, Plan, PlanFault, plan};
 use std::alloc::Global;
 
 /// The frames of a cue list on their way out, while further cues are taken (CTA-608-E, CTA-708-E).

@@ -5,7 +5,7 @@ use Rattle.frame_carrier.specs.Framing.{words_of}
 use Rattle.cc_base.specs.Texts.{text}
 use Rattle.cdp_packets.specs.Packets.{Frame}
 use Rattle.cue_list_commands.specs.Output.{built_packets, list_framing}
-use Rattle.frame_scheduler.specs.Planned.{IsListPlaced, Placement}
+use Rattle.frame_carrier.specs.Planned.{IsListPlaced, Placement}
 use Rattle.grid_print.specs.GridTexts.{screens_differ}
 use Rattle.grid_print.specs.Screens.{received_screens}
 use Rattle.load_commands.specs.LoadList.{load_list}

@@ -33,14 +33,14 @@ use Rattle.line21_screen.specs.Channels.{ChannelState}
 use Rattle.line21_screen.specs.Grid.{empty_grid}
 use Rattle.line21_screen.specs.Meaning.{after}
 use Rattle.lanes.specs.ChannelLane.{IsChannelPlaced, channel_chunks}
-use Rattle.frame_scheduler.specs.Columns.{Columns, first_pairs, pair_in}
-use Rattle.frame_scheduler.specs.Planned.{columns_of}
-use Rattle.frame_scheduler.specs.SlotLists.{slot_cues, slots_in_list}
+use Rattle.frame_carrier.specs.Columns.{Columns, first_pairs, pair_in}
+use Rattle.frame_carrier.specs.Planned.{columns_of}
+use Rattle.frame_carrier.specs.SlotLists.{slot_cues, slots_in_list}
 use Rattle.lanes.specs.Timeline.{Timeline, column, repeat_at, repeat_of, slot}
 use Rattle.lanes.specs.LaneTimeline.{stands}
 use Rattle.lanes.specs.declared.chunk.FieldChunk.{FieldChunk}
-use Rattle.frame_scheduler.proofs.ListDoublingLemmas.{channel_timeline, field_one_is, field_two_is}
-use Rattle.frame_scheduler.proofs.SlotLemmas.{slot_cues_formed, slot_sequence}
+use Rattle.frame_carrier.proofs.ListDoublingLemmas.{channel_timeline, field_one_is, field_two_is}
+use Rattle.frame_carrier.proofs.SlotLemmas.{slot_cues_formed, slot_sequence}
 use Rattle.line21_shown.specs.Reading.{IsForFirst}
 use Rattle.line21_shown.proofs.CaptionedLemmas.{IsFirstPair, channel_captioned, slots_all, written_first}
 use Rattle.line21_shown.proofs.HeadLemmas.{Continues}

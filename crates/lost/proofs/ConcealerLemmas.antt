@@ -6,7 +6,7 @@ use Rattle.cdp_packets.specs.Packets.{Frame}
 use Rattle.line21_screen.specs.Grid.{Grid}
 use Rattle.cue_lists.specs.Listing.{IsFormed, Listing}
 use Rattle.cue_lists.specs.Rules.{IsRuled}
-use Rattle.frame_scheduler.specs.Planned.{IsListPlaced, Placement, authored_channel}
+use Rattle.frame_carrier.specs.Planned.{IsListPlaced, Placement, authored_channel}
 use Rattle.cc_conceal.specs.Concealed.{concealed_field}
 use Rattle.cc_conceal.specs.Concealers.{Conceals}
 use Rattle.cc_conceal.specs.declared.concealer.Concealer.{Concealer}

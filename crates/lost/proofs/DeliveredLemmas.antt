@@ -6,7 +6,7 @@ use Rattle.std.proofs.lemmas.Bool.Decides.{nat_tests}
 use Rattle.std.proofs.lemmas.List.{map-append, reverse-append, reverse-reverse}
 use Rattle.cc_base.specs.declared.rate.Rate.{Rate}
 use Rattle.cdp_packets.specs.Packets.{Frame}
-use Rattle.frame_scheduler.specs.Columns.{Columns}
+use Rattle.frame_carrier.specs.Columns.{Columns}
 use Rattle.frame_carrier.specs.Carrying.{column_packets}
 use Rattle.services_shown.proofs.ToldLemmas.{packets_more}
 use Rattle.cc_conceal.specs.Concealed.{heard_back, heard_of}

@@ -18,8 +18,8 @@ use Rattle.dtvcc_screen.specs.Meaning.{Byte, Event, Served, Tick, served_after a
 use Rattle.dtvcc_screen.specs.Shown.{grids}
 use Rattle.services_files.specs.Events.{service_events}
 use Rattle.cue_lists.specs.AuthoredServiceGrid.{authored_windows}
-use Rattle.frame_scheduler.specs.Columns.{Columns, first_pairs, pair_in}
-use Rattle.frame_scheduler.specs.Planned.{IsListPlaced, Placement, authored_channel, captions_in, chunks_in, columns_of, share_in}
+use Rattle.frame_carrier.specs.Columns.{Columns, first_pairs, pair_in}
+use Rattle.frame_carrier.specs.Planned.{IsListPlaced, Placement, authored_channel, captions_in, chunks_in, columns_of, share_in}
 use Rattle.frame_carrier.specs.Carrying.{column_packets}
 use Rattle.services_shown.specs.PlacedServices.{AreServicesPlaced}
 use Rattle.services_shown.specs.Told.{sent_to, told, told_since}

@@ -3,7 +3,7 @@ use Rattle.std.proofs.Common.{◌≡◌, ◌∙◌, ℕ, suc, ◌+◌, ◌-◌, 
 use Rattle.std.proofs.lemmas.Bool.Decides.{nat_tests}
 use Rattle.cdp_packets.specs.Packets.{Frame}
 use Rattle.cue_lists.specs.Listing.{Listing}
-use Rattle.frame_scheduler.specs.Planned.{Placement, columns_of}
+use Rattle.frame_carrier.specs.Planned.{Placement, columns_of}
 use Rattle.cc_conceal.specs.Concealed.{distance, frame_number_behind, missing_before}
 use Rattle.lost.specs.Delivered.{AreDelivered, packet_of}
 use Rattle.lost.specs.Numbers.{FramesAreNumbered, MissingAreCounted, last_of}

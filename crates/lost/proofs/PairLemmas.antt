@@ -25,10 +25,10 @@ use Rattle.cdp_packets.specs.Packets.{Frame}
 use Rattle.cdp_packets.specs.PacketTriplets.{packet_triplets}
 use Rattle.words_files.specs.Received.{field_pairs, received_pairs}
 use Rattle.lanes.specs.ChannelLane.{channel_slot}
-use Rattle.frame_scheduler.specs.Columns.{Columns, pair_in}
-use Rattle.frame_scheduler.specs.Planned.{Placement, channel_pair, columns_of}
-use Rattle.frame_scheduler.specs.SlotLists.{slot_cues}
-use Rattle.frame_scheduler.proofs.SlotLemmas.{slot_cues_formed}
+use Rattle.frame_carrier.specs.Columns.{Columns, pair_in}
+use Rattle.frame_carrier.specs.Planned.{Placement, channel_pair, columns_of}
+use Rattle.frame_carrier.specs.SlotLists.{slot_cues}
+use Rattle.frame_carrier.proofs.SlotLemmas.{slot_cues_formed}
 use Rattle.frame_carrier.specs.Carried.{AreCarried}
 use Rattle.frame_carrier.specs.Carrying.{channel_packet_of, column_packets, frame_packet}
 use Rattle.services_shown.proofs.ToldLemmas.{packets_more}

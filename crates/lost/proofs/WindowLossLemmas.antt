@@ -14,7 +14,7 @@ use Rattle.dtvcc_author.specs.declared.caption.Caption.{Caption}
 use Rattle.dtvcc_author.specs.Captions.{caption_with, service_captions, window_caption}
 use Rattle.dtvcc_author.proofs.LatestLemmas.{Has}
 use Rattle.lanes.proofs.CaptionsKept.{eqb_turned}
-use Rattle.frame_scheduler.specs.Planned.{share_in}
+use Rattle.frame_carrier.specs.Planned.{share_in}
 use Rattle.std.specs.List.{AllByRecursion, cons_option}
 use Rattle.windows_shown.specs.AuthoredShown.{list_lane}
 use Rattle.windows_shown.proofs.ShownLemmas.{windows_are_heard}

@@ -25,8 +25,8 @@ use Rattle.line21_shown.proofs.CaptionedLemmas.{AreBytes, frame_bytes as bytes_o
 use Rattle.cue_lists.specs.Listing.{IsFormed, Listing}
 use Rattle.cue_lists.specs.Rules.{IsRuled}
 use Rattle.cue_lists.specs.declared.lane.Lane.TheVariants.{Channel, Service}
-use Rattle.frame_scheduler.specs.Columns.{Columns}
-use Rattle.frame_scheduler.specs.Planned.{IsListPlaced, Placement, channel_pair, columns_of}
+use Rattle.frame_carrier.specs.Columns.{Columns}
+use Rattle.frame_carrier.specs.Planned.{IsListPlaced, Placement, channel_pair, columns_of}
 use Rattle.services_shown.proofs.RoomLemmas.{blocks_bytes, frames_roomy, has_blocks}
 use Rattle.frame_carrier.specs.Carried.{AreByteBlocks, AreBytePairs, AreCarried, AreRoomy, IsBytePair}
 use Rattle.frame_carrier.specs.Carrying.{channel_packet, channel_packet_of, frame_bytes, packets_before}

@@ -15,8 +15,8 @@ use Rattle.cue_lists.specs.declared.cue.Kind.{Kind}
 use Rattle.cue_lists.specs.declared.cue.Kind.TheVariants as kind
 use Rattle.line21_screen.specs.Fields.{FieldState}
 use Rattle.line21_screen.specs.Meaning.{after}
-use Rattle.frame_scheduler.specs.Columns.{Columns, pair_in}
-use Rattle.frame_scheduler.specs.Planned.{IsListPlaced, Placement, authored_channel, columns_of}
+use Rattle.frame_carrier.specs.Columns.{Columns, pair_in}
+use Rattle.frame_carrier.specs.Planned.{IsListPlaced, Placement, authored_channel, columns_of}
 
 -- the pairs of a field in so many frames from one on
 abbrev pub pairs_between : FieldNumber → Columns → ℕ → ℕ → List Pair

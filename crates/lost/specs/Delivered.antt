@@ -6,8 +6,8 @@ use Rattle.std.specs.List.{AllByRecursion, flat_map, range_with_len}
 use Rattle.cc_base.specs.declared.rate.Rate.{Rate}
 use Rattle.cdp_packets.specs.Packets.{Frame}
 use Rattle.cue_lists.specs.Listing.{Listing}
-use Rattle.frame_scheduler.specs.Columns.{Columns}
-use Rattle.frame_scheduler.specs.Planned.{Placement, columns_of}
+use Rattle.frame_carrier.specs.Columns.{Columns}
+use Rattle.frame_carrier.specs.Planned.{Placement, columns_of}
 use Rattle.frame_carrier.specs.Carrying.{channel_packet_of, frame_bytes, frame_packet}
 
 -- the distribution packet of a frame of columns

@@ -3,7 +3,7 @@
 -- ST 334-2, cdp_hdr_sequence_cntr), and it counts on from that of the first one.
 use Rattle.std.specs.Prelude.{◌≡◌, ℕ, suc, ◌+◌, ◌<◌, List, [], ◌∷◌, ◌++◌}
 use Rattle.cue_lists.specs.Listing.{Listing}
-use Rattle.frame_scheduler.specs.Planned.{Placement}
+use Rattle.frame_carrier.specs.Planned.{Placement}
 use Rattle.cc_conceal.specs.Concealed.{missing_before, number_of_last}
 use Rattle.lost.specs.Delivered.{AreDelivered, delivered_packets}
 

@@ -19,7 +19,7 @@ use Rattle.cue_lists.specs.Rules.{IsRuled}
 use Rattle.cue_lists.specs.AuthoredServiceGrid.{authored_windows}
 use Rattle.cue_lists.specs.declared.cue.Cue.{Cue}
 use Rattle.line21_screen.specs.Fields.{FieldState}
-use Rattle.frame_scheduler.specs.Planned.{IsListPlaced, Placement, authored_channel}
+use Rattle.frame_carrier.specs.Planned.{IsListPlaced, Placement, authored_channel}
 use Rattle.lost.specs.ChannelLoss.{Resynchronises}
 use Rattle.lost.specs.WindowLoss.{IsServiceBack}
 use Rattle.cc_conceal.specs.Concealed.{concealed_field, concealed_grids, concealed_windows}

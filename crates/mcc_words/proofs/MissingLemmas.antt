@@ -5,8 +5,8 @@ use Rattle.cc_data.specs.declared.triplet.Triplet.{Triplet}
 use Rattle.words_files.specs.CarriedWords.{carried_words, triplets_packet}
 use Rattle.frame_carrier.specs.Carrying.{channel_packet, frame_bytes}
 use Rattle.frame_carrier.specs.FrameTriplets.{frame_triplets}
-use Rattle.frame_scheduler.specs.End.{silent_frame}
-use Rattle.frame_scheduler.specs.declared.frames.FrameBytes.{FrameBytes}
+use Rattle.frame_carrier.specs.End.{silent_frame}
+use Rattle.frame_carrier.specs.FrameBytes.{FrameBytes}
 
 pub frame_is : (rate : Rate) (number at : ℕ) (frame : FrameBytes) (triplets shown : List Triplet) (out : List ℕ) → at ≡ number → frame ≡ silent_frame rate at
     → triplets ≡ frame_triplets rate frame (channel_packet 0 frame.blocks.items) → shown ≡ triplets → out ≡ carried_words (triplets_packet rate number shown)

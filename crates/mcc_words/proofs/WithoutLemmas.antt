@@ -12,8 +12,8 @@ use Rattle.frame_carrier.specs.Carried.{AreByteBlocks, AreBytePairs, AreRoomy, I
 use Rattle.frame_carrier.specs.Carrying.{frame_bytes, frame_packet}
 use Rattle.frame_carrier.proofs.CarriedLemmas.{columns_file, frames_carried}
 use Rattle.frame_carrier.proofs.CarryingLemmas.{quiet_bytes, quiet_roomy}
-use Rattle.frame_scheduler.specs.Columns.{Columns}
-use Rattle.frame_scheduler.specs.End.{silent_frame}
+use Rattle.frame_carrier.specs.Columns.{Columns}
+use Rattle.frame_carrier.specs.End.{silent_frame}
 use Rattle.line21_codes.specs.NullPairs.{is_null, null_pair}
 use Rattle.line21_codes.specs.declared.channels.Chan.TheVariants.{Cc1, Cc3}
 use Rattle.line21_codes.specs.declared.channels.FieldNumber.TheVariants.{One, Two}

@@ -2,7 +2,7 @@
 -- What a maker of words does at each call.
 use Rattle.std.specs.Prelude.{◌≡◌, ℕ, ◌+◌, ◌%◌, Bool, true, false, nat_lt, List, [], Option, Some, None}
 use Rattle.cdp_packets.specs.Packets.{Frame, IsCdp}
-use Rattle.frame_scheduler.specs.End.{silent_frame}
+use Rattle.frame_carrier.specs.End.{silent_frame}
 use Rattle.frame_carrier.specs.Carrying.{frame_bytes}
 use Rattle.mcc_files.specs.MccFiles.{TimedPackets}
 use Rattle.mcc_words.specs.MccWords.{AreWordsBehind, first_number, missing, raised_by}

@@ -3,7 +3,7 @@
 -- nothing, with a null pair in each field that has a slot there, and fillers up to its rate's number of triplets.
 use Rattle.std.specs.Prelude.{ℕ, zero, suc, ◌+◌, ◌%◌, List, [], ◌++◌}
 use Rattle.cc_base.specs.declared.rate.Rate.{Rate}
-use Rattle.frame_scheduler.specs.End.{silent_frame}
+use Rattle.frame_carrier.specs.End.{silent_frame}
 use Rattle.frame_carrier.specs.Carrying.{frame_bytes}
 
 -- the words of so many of them, from a number on, modulo 65536

@@ -5,7 +5,7 @@ use Rattle.std.specs.List.{flat_map}
 use Rattle.cc_base.specs.declared.rate.Rate.{Rate}
 use Rattle.cdp_packets.specs.Packets.{Frame, IsCdp}
 use Rattle.frame_carrier.specs.Carrying.{frame_packet}
-use Rattle.frame_scheduler.specs.End.{silent_frame}
+use Rattle.frame_carrier.specs.End.{silent_frame}
 use Rattle.mcc_files.specs.MccFiles.{IsMccFile, TimedPackets}
 use Rattle.mcc_files.specs.Payloads.{Payload}
 use Rattle.mcc_words.specs.MccWords.{AreMccWords, carries_captions}

@@ -1,11 +1,10 @@
 ghost use Rattle.std.specs.Prelude.{◌≡◌, []};
-ghost use Rattle.frame_scheduler.specs.End.{silent_frame};
+ghost use Rattle.frame_carrier.specs.End.{silent_frame};
 ghost use Rattle.frame_carrier.specs.Carrying.{frame_bytes};
 
 use arrayvec::ArrayVec;
 use cc_base::Rate;
-use frame_carrier::Carrier;
-use frame_scheduler::FrameBytes;
+use frame_carrier::{Carrier, FrameBytes};
 use words_files::write_triplets;
 
 /// Frames without captions that are missing before a packet of captions.

@@ -11,7 +11,7 @@ use Rattle.words_reading.proofs.WayLemmas.{all_put, way_flushed, way_unwritten}
 use Rattle.line21_codes.specs.declared.channels.FieldNumber.TheVariants.{One, Two}
 use Rattle.line21_codes.specs.declared.pairs.Pair.{Pair}
 use Rattle.line21_codes.specs.NullPairs.{null_pair}
-use Rattle.frame_scheduler.specs.declared.frames.FrameBytes.{FrameBytes}
+use Rattle.frame_carrier.specs.FrameBytes.{FrameBytes}
 use Rattle.frame_carrier.proofs.CarriedLemmas.{frames_carried}
 use Rattle.frame_carrier.proofs.CarryingLemmas.{quiet_bytes, quiet_roomy}
 use Rattle.frame_carrier.specs.Carried.{AreBytePairs, IsBytePair}

@@ -3,7 +3,7 @@
 use Rattle.std.specs.Prelude.{◌≤◌, [], Some}
 use Rattle.scc_files.specs.Reading.{frames_of}
 use Rattle.scc_files.specs.SccFiles.{AreRising}
-use Rattle.frame_scheduler.specs.declared.frames.FrameBytes.{FrameBytes}
+use Rattle.frame_carrier.specs.FrameBytes.{FrameBytes}
 use Rattle.line21_codes.specs.declared.pairs.Pair.{Pair}
 use Rattle.line21_codes.specs.NullPairs.{null_pair}
 use Rattle.scc_files.specs.declared.fault.SccFault.{SccFault}

@@ -7,8 +7,8 @@ use Rattle.command_base.specs.declared.status.Status.{Status}
 use Rattle.command_base.specs.declared.status.Status.TheVariants as status
 use Rattle.cue_list_commands.specs.Accepted.{IsGoodList, IsRefusedList}
 use Rattle.cue_lists.specs.Listing.{Listing}
-use Rattle.frame_scheduler.specs.Columns.{Columns}
-use Rattle.frame_scheduler.specs.Planned.{IsListPlaced, Placement}
+use Rattle.frame_carrier.specs.Columns.{Columns}
+use Rattle.frame_carrier.specs.Planned.{IsListPlaced, Placement}
 use Rattle.cue_list_commands.specs.Made.{IsMadeOf}
 use Rattle.frame_carrier.specs.declared.programme.Programme.{Programme}
 use Rattle.xds_frames.proofs.CodesLemmas.{columns_given}

@@ -24,12 +24,12 @@ use Rattle.lanes.specs.ChannelLane.{channel_chunks, field_cue_chunks}
 use Rattle.lanes.specs.FieldLane.{IsAllowedInField, end_of, field_lane}
 use Rattle.lanes.specs.LaneEvents.{event_at}
 use Rattle.lanes.specs.LaneTimeline.{lane_timeline, stands}
-use Rattle.frame_scheduler.specs.SlotLists.{slot_cues, slots_in_list}
+use Rattle.frame_carrier.specs.SlotLists.{slot_cues, slots_in_list}
 use Rattle.lanes.specs.Timeline.{Timeline, repeat_of, slot}
 use Rattle.lanes.proofs.DoublingLemmas.{at_unit, free_none, over_cases, unit_begins}
 use Rattle.lanes.proofs.EventLemmas.{some_slot}
 use Rattle.lanes.proofs.FieldLaneLemmas.{end_push}
-use Rattle.frame_scheduler.proofs.SlotLemmas.{slot_cues_formed, slot_sequence}
+use Rattle.frame_carrier.proofs.SlotLemmas.{slot_cues_formed, slot_sequence}
 use Rattle.dual_fields.proofs.CaptionedLemmas.{channel_captioned}
 use Rattle.dual_fields.proofs.ReadingLemmas.{null_code}
 use Rattle.dual_fields.specs.Reading.{IsMarked}

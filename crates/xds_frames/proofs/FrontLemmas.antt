@@ -4,8 +4,8 @@ use Rattle.std.proofs.lemmas.Bool.{cases_lt}
 use Rattle.std.proofs.lemmas.List.{take-take}
 use Rattle.cue_lists.specs.Listing.{Listing}
 use Rattle.cue_lists.specs.declared.lane.Lane.TheVariants.{Channel}
-use Rattle.frame_scheduler.specs.Planned.{Placement}
-use Rattle.frame_scheduler.specs.SlotLists.{slots_in_list}
+use Rattle.frame_carrier.specs.Planned.{Placement}
+use Rattle.frame_carrier.specs.SlotLists.{slots_in_list}
 use Rattle.line21_codes.specs.declared.channels.Chan.TheVariants.{Cc3}
 use Rattle.line21_codes.specs.declared.codes.Code.{Code}
 use Rattle.xds_frames.specs.FreeSlots.{frame_of_slot, free_in}

@@ -7,7 +7,7 @@ use Rattle.cue_lists.specs.Rules.{IsRuled}
 use Rattle.cue_lists.proofs.RulesSaid.{lanes_ruled}
 use Rattle.cue_lists.specs.Rules.Sentences.{AreInSequence}
 use Rattle.cue_lists.specs.declared.cue.Cue.{Cue}
-use Rattle.frame_scheduler.specs.SlotLists.{slots_in_list}
+use Rattle.frame_carrier.specs.SlotLists.{slots_in_list}
 use Rattle.line21_codes.specs.declared.channels.Chan.TheVariants.{Cc3}
 use Rattle.line21_slots.specs.Cadences.{slot_frame}
 use Rattle.xds_frames.specs.ListPackets.{PacketsAreLaid, RoomIsJudged, RoomIsTold, laying_of}

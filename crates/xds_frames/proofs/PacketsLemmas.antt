@@ -10,8 +10,8 @@ use Rattle.line21_slots.proofs.CadenceLemmas.{own_frame, slot_more, slot_no_more
 use Rattle.line21_slots.specs.Cadences.{has_slot_in, slot_frame, slot_from, slot_in}
 use Rattle.line21_slots.specs.declared.cadence.Cadence.{Cadence}
 use Rattle.line21_slots.specs.declared.cadence.Cadence.TheVariants.{EveryFrame, EvenFrames, OddFrames}
-use Rattle.frame_scheduler.specs.Columns.{Columns}
-use Rattle.frame_scheduler.specs.declared.frames.FrameBytes.{FrameBytes}
+use Rattle.frame_carrier.specs.Columns.{Columns}
+use Rattle.frame_carrier.specs.FrameBytes.{FrameBytes}
 use Rattle.xds_frames.specs.Loads.{StandsAt}
 use Rattle.xds_frames.specs.Packets.{IsLaying, Laying, LaysPackets, free_at, is_free, laid_frame, laid_pair}
 use Rattle.xds_frames.specs.declared.packets.Packets.{Packets}

@@ -1,11 +1,11 @@
 -- A cue list and packets beside its captions that are planned together.
 use Rattle.std.proofs.Common.{◌≡◌, ℕ, List, Option, Some, None, refl, subst}
 use Rattle.cue_lists.specs.Listing.{Listing}
-use Rattle.frame_scheduler.proofs.LanesLemmas.{one_placement}
-use Rattle.frame_scheduler.specs.Columns.{Columns}
-use Rattle.frame_scheduler.specs.Frames.{GivesFrom, frames_left}
-use Rattle.frame_scheduler.specs.Planned.{IsListPlaced, Placement, columns_of}
-use Rattle.frame_scheduler.specs.declared.frames.Plan.{Plan}
+use Rattle.frame_carrier.proofs.LanesLemmas.{one_placement}
+use Rattle.frame_carrier.specs.Columns.{Columns}
+use Rattle.frame_carrier.specs.Frames.{GivesFrom, frames_left}
+use Rattle.frame_carrier.specs.Planned.{IsListPlaced, Placement, columns_of}
+use Rattle.frame_carrier.specs.Plan.{Plan}
 use Rattle.line21_slots.specs.Cadences.{slot_frame, slot_from}
 use Rattle.xds_frames.specs.XdsFrames.{HasXdsRoom}
 use Rattle.xds_frames.proofs.ListPacketsLemmas.{packets_laid, room_told}

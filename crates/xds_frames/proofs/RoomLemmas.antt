@@ -1,7 +1,7 @@
 -- Frames that are laid to their end, to learn which packets have room.
 use Rattle.std.proofs.Common.{◌≡◌, ◌∙◌, ℕ, ◌+◌, Option, option_map, sym, ap, subst, arith}
-use Rattle.frame_scheduler.specs.Columns.{Columns}
-use Rattle.frame_scheduler.specs.declared.frames.FrameBytes.{FrameBytes}
+use Rattle.frame_carrier.specs.Columns.{Columns}
+use Rattle.frame_carrier.specs.FrameBytes.{FrameBytes}
 use Rattle.line21_slots.specs.Cadences.{slot_frame, slot_from, slot_in}
 use Rattle.std.specs.Prelude.{length}
 use Rattle.xds_frames.specs.Packets.{HasPairs, IsLaying, Laying, free_at}

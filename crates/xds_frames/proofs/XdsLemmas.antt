@@ -31,14 +31,14 @@ use Rattle.dual_fields.specs.Reading.{IsCaptioned, IsMarked, acts, first_alone, 
 use Rattle.dual_fields.specs.Shown.{state_at}
 use Rattle.frame_carrier.specs.Carried.{AreBytePairs, IsBytePair}
 use Rattle.lanes.specs.ChannelLane.{channel_chunks, channel_slot}
-use Rattle.frame_scheduler.specs.Columns.{first_pairs, pair_in}
+use Rattle.frame_carrier.specs.Columns.{first_pairs, pair_in}
 use Rattle.lanes.specs.DoubledPairs.{IsDoubled}
-use Rattle.frame_scheduler.specs.Planned.{Placement, columns_of}
-use Rattle.frame_scheduler.specs.SlotLists.{slot_cues, slots_in_list}
+use Rattle.frame_carrier.specs.Planned.{Placement, columns_of}
+use Rattle.frame_carrier.specs.SlotLists.{slot_cues, slots_in_list}
 use Rattle.lanes.specs.Timeline.{Timeline, column, over, repeat_at, repeat_of, slot}
 use Rattle.lanes.proofs.ColumnLemmas.{column_doubled}
 use Rattle.lanes.proofs.DoublingLemmas.{lane_ended}
-use Rattle.frame_scheduler.proofs.ListDoublingLemmas.{channel_ended, columns_doubled, field_two_is, pairs_column}
+use Rattle.frame_carrier.proofs.ListDoublingLemmas.{channel_ended, columns_doubled, field_two_is, pairs_column}
 use Rattle.services_shown.specs.OtherPairs.{AreFitAlike, HaveOtherPairs}
 use Rattle.services_shown.proofs.OtherPairsLemmas.{other_pairs}
 use Rattle.services_shown.proofs.PlacedBlocksLemmas.{placed_fit}

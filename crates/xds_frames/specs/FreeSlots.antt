@@ -13,7 +13,7 @@ use Rattle.line21_codes.specs.declared.channels.Chan.TheVariants.{Cc3}
 use Rattle.line21_slots.specs.Cadences.{cadence_of, slot_frame}
 use Rattle.lanes.specs.ChannelLane.{IsChannelPlaced, channel_chunks, channel_slot}
 use Rattle.lanes.specs.LaneTimeline.{lane_timeline}
-use Rattle.frame_scheduler.specs.SlotLists.{slot_cues}
+use Rattle.frame_carrier.specs.SlotLists.{slot_cues}
 use Rattle.lanes.specs.Timeline.{Timeline}
 use Rattle.xds_frames.specs.PacketTimeline.{LeaveFree}
 use Rattle.lanes.specs.LaneEvents.{event_at}

@@ -6,8 +6,8 @@ use Rattle.cue_lists.specs.declared.lane.Lane.TheVariants.{Channel}
 use Rattle.line21_codes.specs.declared.channels.Chan.TheVariants.{Cc3}
 use Rattle.line21_slots.specs.Cadences.{cadence_of, slot_frame}
 use Rattle.lanes.specs.ChannelLane.{channel_slot}
-use Rattle.frame_scheduler.specs.Planned.{Placement, columns_of}
-use Rattle.frame_scheduler.specs.SlotLists.{slot_cues, slots_in_list}
+use Rattle.frame_carrier.specs.Planned.{Placement, columns_of}
+use Rattle.frame_carrier.specs.SlotLists.{slot_cues, slots_in_list}
 use Rattle.xds_frames.specs.XdsFrames.{HasXdsRoom, IsFirstWithoutXdsRoom, xds_columns}
 use Rattle.xds_frames.specs.Packets.{IsLaying, LaysPackets, Laying, free_at}
 use Rattle.xds_frames.specs.declared.packets.Packets.{Packets}

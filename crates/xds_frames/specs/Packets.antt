@@ -10,8 +10,8 @@ use Rattle.line21_codes.specs.declared.channels.Chan.TheVariants.{Cc3}
 use Rattle.line21_codes.specs.declared.pairs.Pair.{Pair}
 use Rattle.line21_slots.specs.Cadences.{slot_frame, slot_from, slot_in}
 use Rattle.line21_slots.specs.declared.cadence.Cadence.{Cadence}
-use Rattle.frame_scheduler.specs.Columns.{Columns}
-use Rattle.frame_scheduler.specs.declared.frames.FrameBytes.{FrameBytes}
+use Rattle.frame_carrier.specs.Columns.{Columns}
+use Rattle.frame_carrier.specs.FrameBytes.{FrameBytes}
 use Rattle.xds_frames.specs.FreeSlots.{is_loading}
 use Rattle.xds_frames.specs.Loads.{StandsAt}
 use Rattle.xds_frames.specs.declared.loads.Loads.{Loads}

@@ -2,9 +2,9 @@
 -- What planning a cue list and packets beside its captions answers.
 use Rattle.std.specs.Prelude.{◌≡◌, ⊤, ℕ, List}
 use Rattle.cue_lists.specs.Listing.{Listing}
-use Rattle.frame_scheduler.specs.Frames.{GivesFrom, frames_left}
-use Rattle.frame_scheduler.specs.Planned.{IsFirstWithoutRoom, IsListPlaced, Placement}
-use Rattle.frame_scheduler.specs.declared.frames.Plan.{Plan}
+use Rattle.frame_carrier.specs.Frames.{GivesFrom, frames_left}
+use Rattle.frame_carrier.specs.Planned.{IsFirstWithoutRoom, IsListPlaced, Placement}
+use Rattle.frame_carrier.specs.Plan.{Plan}
 use Rattle.lanes.specs.declared.planning.PlanFault.{PlanFault}
 use Rattle.lanes.specs.declared.planning.PlanFault.TheVariants as plan
 use Rattle.frame_carrier.specs.Overlays.{GivesOverlaid}

@@ -12,9 +12,9 @@ use Rattle.line21_codes.specs.declared.channels.FieldNumber.TheVariants.{Two}
 use Rattle.line21_codes.specs.declared.pairs.Pair.{Pair}
 use Rattle.line21_slots.specs.Cadences.{cadence_of, slot_in}
 use Rattle.lanes.specs.ChannelLane.{channel_slot}
-use Rattle.frame_scheduler.specs.Columns.{Columns, first_pairs}
-use Rattle.frame_scheduler.specs.Planned.{IsListPlaced, Placement, columns_of}
-use Rattle.frame_scheduler.specs.SlotLists.{slot_cues, slots_in_list}
+use Rattle.frame_carrier.specs.Columns.{Columns, first_pairs}
+use Rattle.frame_carrier.specs.Planned.{IsListPlaced, Placement, columns_of}
+use Rattle.frame_carrier.specs.SlotLists.{slot_cues, slots_in_list}
 use Rattle.services_shown.specs.Showing.{column_grids}
 use Rattle.services_shown.specs.OtherPairs.{AreFitAlike}
 use Rattle.services_shown.specs.Sound.{HasFitPairs, IsSoundFrames}

@@ -1,6 +1,6 @@
 ghost use Rattle.std.specs.Prelude.{◌≡◌, ◌-◌, ◌^◌, IfOk};
 ghost use Rattle.cue_lists.specs.Rules.{IsRuled};
-ghost use Rattle.frame_scheduler.specs.Planned.{Placement};
+ghost use Rattle.frame_carrier.specs.Planned.{Placement};
 ghost use Rattle.xds_frames.specs.ListPackets.{laying_of};
 ghost use Rattle.xds_frames.specs.Packets.{IsLaying, frames_last};
 

@@ -9,12 +9,10 @@ ghost use Rattle.xds_frames.specs.Loads.{StandsAt};
 ghost use Rattle.xds_frames.specs.Packets.{IsLaying, Laying, frame_next, is_free, laid_frame, loads_in, writer_in};
 ghost use Rattle.xds_lists.specs.Writer.{IsBehind};
 ghost use Rattle.xds_packets.specs.Places.{given_at};
-ghost use Rattle.xds_packets.specs.Sending.{Listed, writing_at};
-ghost use Rattle.xds_packets.specs.Sending.{unfinished as unfinished_in};
+ghost use Rattle.xds_packets.specs.Sending.{Listed, writing_at, unfinished as unfinished_in};
 
 use crate::loads::Loads;
-use frame_carrier::Overlay;
-use frame_scheduler::FrameBytes;
+use frame_carrier::{FrameBytes, Overlay};
 use line21_codes::Pair;
 use xds_lists::XdsWriter;
 

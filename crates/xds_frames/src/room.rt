@@ -1,11 +1,11 @@
 ghost use Rattle.std.specs.Prelude.{◌≡◌, ◌≤◌, ◌-◌, ◌^◌};
-ghost use Rattle.frame_scheduler.specs.Columns.{Columns};
+ghost use Rattle.frame_carrier.specs.Columns.{Columns};
 ghost use Rattle.line21_slots.specs.Cadences.{slot_frame, slot_from};
 ghost use Rattle.xds_frames.specs.Packets.{HasPairs, IsLaying, Laying, frames_last, free_at};
 ghost use Rattle.xds_packets.specs.Places.{LacksRoom};
 
 use crate::packets::Packets;
-use frame_scheduler::Frames;
+use frame_carrier::Frames;
 
 /// The number, from 1, of the first packet whose end pair finds no free slot in these frames; None where each finds one. Behind it the
 /// packets begin anew.

@@ -1,7 +1,7 @@
 use Rattle.std.proofs.Common.{refl, sym, subst, ◌∙◌}
 use Rattle.line21_codes.specs.declared.channels.Chan.TheVariants.{Cc1, Cc3}
-use Rattle.frame_scheduler.proofs.PlanLemmas.{planned_fits, planned_numbered, planned_start}
-use Rattle.frame_scheduler.specs.declared.frames.Plan.{Plan}
+use Rattle.frame_carrier.proofs.PlanLemmas.{planned_fits, planned_numbered, planned_start}
+use Rattle.frame_carrier.specs.Plan.{Plan}
 use Rattle.frame_carrier.specs.OverlaidFrames.{overlay_of}
 use Rattle.dual_plans.specs.SecondLanes.{lanes_at_first}
 use Rattle.dual_plans.specs.DualAnswer.{IsPlanned}

@@ -1,5 +1,5 @@
 use Rattle.std.proofs.Common.{arith}
-use Rattle.frame_scheduler.specs.Frames.{frames_left}
+use Rattle.frame_carrier.specs.Frames.{frames_left}
 use Rattle.live_frames.proofs.LiveLemmas.{skip_gives, skip_left}
 use Rattle.live_frames.proofs.live.skipped.Goals as goal
 

@@ -1,6 +1,6 @@
 use Rattle.std.proofs.Common.{◌≡◌, ◌-◌, ◌≤◌}
-use Rattle.frame_scheduler.specs.Columns.{Columns}
-use Rattle.frame_scheduler.specs.Frames.{GivesFrom, frames_left}
+use Rattle.frame_carrier.specs.Columns.{Columns}
+use Rattle.frame_carrier.specs.Frames.{GivesFrom, frames_left}
 use Rattle.live_frames.proofs.live.skipped.Given as goal
 
 -- so many frames are passed

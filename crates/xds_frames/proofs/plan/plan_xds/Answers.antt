@@ -1,5 +1,5 @@
 use Rattle.std.proofs.Common.{None, subst, sym}
-use Rattle.frame_scheduler.specs.declared.frames.Plan.{Plan}
+use Rattle.frame_carrier.specs.Plan.{Plan}
 use Rattle.frame_carrier.specs.OverlaidFrames.{overlay_of}
 use Rattle.xds_frames.specs.PlanAnswer.{IsPlanned}
 use Rattle.xds_frames.proofs.PlanLemmas.{again_laid, all_planned, lacks_room, round_told}

@@ -1,5 +1,5 @@
 use Rattle.std.proofs.Common.{◌≤◌}
-use Rattle.frame_scheduler.specs.Columns.{Columns}
+use Rattle.frame_carrier.specs.Columns.{Columns}
 use Rattle.xds_frames.specs.Packets.{HasPairs, IsLaying, Laying, frames_last}
 use Rattle.xds_frames.proofs.RoomLemmas.{AreUnderWay}
 use Rattle.xds_frames.proofs.room.first_without_room.Given as goal

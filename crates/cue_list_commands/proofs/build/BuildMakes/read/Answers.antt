@@ -1,7 +1,7 @@
 use Rattle.cue_list_commands.specs.Accepted.{IsRefused}
 use Rattle.cue_list_commands.specs.Output.{IsPlacedAs, IsSoundWords, framing_of}
 use Rattle.cue_list_commands.proofs.Outputs.{sound_words}
-use Rattle.frame_scheduler.specs.Frames.{GivesFrom, frames_left}
+use Rattle.frame_carrier.specs.Frames.{GivesFrom, frames_left}
 use Rattle.cue_list_commands.proofs.MadeLemmas.{sound_read}
 use Rattle.cue_list_commands.proofs.build.BuildMakes.read.Goals as goal
 

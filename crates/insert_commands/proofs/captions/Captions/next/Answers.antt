@@ -3,8 +3,8 @@ use Rattle.cc_base.specs.declared.rate.Rate.{Rate}
 use Rattle.frame_carrier.specs.Carrying.{IsAt, channel_packet, packet_count, packets_before}
 use Rattle.frame_carrier.specs.FrameTriplets.{frame_triplets}
 use Rattle.frame_carrier.specs.declared.carrier.Carrier.{Carrier}
-use Rattle.frame_scheduler.specs.Columns.{Columns}
-use Rattle.frame_scheduler.specs.declared.frames.FrameBytes.{FrameBytes}
+use Rattle.frame_carrier.specs.Columns.{Columns}
+use Rattle.frame_carrier.specs.FrameBytes.{FrameBytes}
 use Rattle.insert_commands.specs.Captions.{padded}
 use Rattle.insert_commands.proofs.captions.Captions.next.Goals as goal
 
