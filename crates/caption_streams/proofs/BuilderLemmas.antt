@@ -3,13 +3,13 @@ use Rattle.std.proofs.Common.{◌≡◌, ◌∙◌, ◌+◌, ◌<◌, ap, sym, s
 use Rattle.std.specs.Prelude.{IfNone, IfSome, IsSome, MatchOption, None, Option, Some}
 use Rattle.cc_base.specs.declared.rate.Rate.{Rate}
 use Rattle.cue_lists.specs.Listing.{Listing}
-use Rattle.frame_carrier.specs.Carrying.{IsAt, packet_count, packets_before}
-use Rattle.frame_carrier.specs.declared.carrier.Carrier.{Carrier}
-use Rattle.frame_carrier.specs.Columns.{Columns}
-use Rattle.frame_carrier.specs.Frames.{GivesFrom, frames_left}
-use Rattle.frame_carrier.specs.Planned.{Placement, columns_of}
-use Rattle.frame_carrier.specs.FrameBytes.{FrameBytes}
-use Rattle.frame_carrier.specs.Plan.{Plan}
+use Rattle.cue_list_commands.specs.Carrying.{IsAt, packet_count, packets_before}
+use Rattle.cue_list_commands.specs.Carrier.{Carrier}
+use Rattle.cue_list_commands.specs.Columns.{Columns}
+use Rattle.cue_list_commands.specs.Frames.{GivesFrom, frames_left}
+use Rattle.cue_list_commands.specs.Planned.{Placement, columns_of}
+use Rattle.cue_list_commands.specs.FrameBytes.{FrameBytes}
+use Rattle.cue_list_commands.specs.Plan.{Plan}
 use Rattle.caption_streams.specs.Builders.{IsAhead, IsBuilding, count_of}
 use Rattle.caption_streams.specs.declared.building.Building.{Building}
 

@@ -3,13 +3,13 @@
 use Rattle.std.specs.Prelude.{◌≡◌, ◌+◌, ◌<◌, ◌++◌, ℕ, List, length, drop, Option, Some, None, IsSome}
 use Rattle.cue_lists.specs.Listing.{Listing}
 use Rattle.cue_list_commands.specs.Accepted.{IsAccepted}
-use Rattle.frame_carrier.specs.Carrying.{IsAt, channel_packet_of, frame_bytes, packets_before}
-use Rattle.frame_carrier.specs.declared.carrier.Carrier.{Carrier}
-use Rattle.frame_carrier.specs.Columns.{Columns}
-use Rattle.frame_carrier.specs.Frames.{GivesFrom, frames_left}
-use Rattle.frame_carrier.specs.Planned.{Placement, columns_of}
-use Rattle.frame_carrier.specs.FrameBytes.{FrameBytes}
-use Rattle.frame_carrier.specs.Plan.{Plan}
+use Rattle.cue_list_commands.specs.Carrying.{IsAt, channel_packet_of, frame_bytes, packets_before}
+use Rattle.cue_list_commands.specs.Carrier.{Carrier}
+use Rattle.cue_list_commands.specs.Columns.{Columns}
+use Rattle.cue_list_commands.specs.Frames.{GivesFrom, frames_left}
+use Rattle.cue_list_commands.specs.Planned.{Placement, columns_of}
+use Rattle.cue_list_commands.specs.FrameBytes.{FrameBytes}
+use Rattle.cue_list_commands.specs.Plan.{Plan}
 use Rattle.caption_streams.specs.declared.building.Building.{Building}
 use Rattle.caption_streams.specs.declared.building.NextFrame.{NextFrame}
 use Rattle.caption_streams.specs.declared.building.NextFrame.TheVariants as asked

@@ -3,15 +3,14 @@ ghost use Rattle.command_base.specs.declared.status.Status.TheVariants as status
 ghost use Rattle.cue_list_commands.specs.Accepted.{IsRefused};
 ghost use Rattle.cue_list_commands.specs.Reads.{IsProgrammeOf};
 ghost use Rattle.cue_lists.specs.Listing.{Listing};
-ghost use Rattle.frame_carrier.specs.Carrying.{IsAt, packets_before};
-ghost use Rattle.frame_carrier.specs.Planned.{Placement, columns_of};
+ghost use Rattle.cue_list_commands.specs.Carrying.{IsAt, packets_before};
+ghost use Rattle.cue_list_commands.specs.Planned.{Placement, columns_of};
 ghost use Rattle.caption_streams.specs.Builders.{Begins, GivesNext, IsBuilding, IsCarriedNext, IsOver, frames_to_come, packet_of};
 
 use crate::slice_source::SliceSource;
 use arrayvec::ArrayVec;
 use command_base::Status;
-use cue_list_commands::read_programme;
-use frame_carrier::{Carrier, FrameBytes, Frames, Plan, Programme};
+use cue_list_commands::{Carrier, FrameBytes, Frames, Plan, Programme, read_programme};
 use std::alloc::Global;
 
 /// What came of asking a builder for its next frame.

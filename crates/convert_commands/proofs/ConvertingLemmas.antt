@@ -3,11 +3,11 @@ use Rattle.std.proofs.Common.{◌≡◌, ◌∙◌, ◌≢◌, ◌+◌, ◌++◌
 use Rattle.cc_base.specs.declared.refusal.Refusal.{Refusal}
 use Rattle.cc_base.specs.declared.streams.Put.{Put}
 use Rattle.cc_base.specs.declared.streams.Put.TheVariants as put
-use Rattle.cc_receiver.proofs.FedFrames.{IsNextFrame, counted_nothing, counts_none, counts_one, frame_more, frames_still, nothing_is_file, nothing_offends}
-use Rattle.cc_receiver.specs.Feeds.{Counts, HasFed, HasRefused}
-use Rattle.cc_receiver.specs.Receivers.{frame_count}
-use Rattle.cc_receiver.specs.declared.receiver.Ended.TheVariants as ended
-use Rattle.cc_receiver.specs.declared.receiver.Fed.{Fed}
+use Rattle.words_reading.proofs.FedFrames.{IsNextFrame, counted_nothing, counts_none, counts_one, frame_more, frames_still, nothing_is_file, nothing_offends}
+use Rattle.words_reading.specs.Feeds.{Counts, HasFed, HasRefused}
+use Rattle.words_reading.specs.Receivers.{frame_count}
+use Rattle.words_reading.specs.Ended.TheVariants as ended
+use Rattle.words_reading.specs.Fed.{Fed}
 use Rattle.cdp_packets.specs.Packets.{Frame}
 use Rattle.findings.specs.declared.misfit.Misfit.{Misfit}
 use Rattle.rate_convert.specs.Conversion.{conversion_bytes}
@@ -20,7 +20,7 @@ use Rattle.rate_convert.specs.Halvers.{halves_words, misfit_of}
 use Rattle.rate_convert.specs.Misfits.{AreFit, HasMisfit}
 use Rattle.rate_convert.specs.declared.converter.Converter.{Converter}
 use Rattle.rate_convert.specs.declared.halver.Halver.{Halver}
-use Rattle.cc_receiver.specs.CaptionChannel.{caption_channel}
+use Rattle.words_reading.specs.CaptionChannel.{caption_channel}
 use Rattle.text_output.proofs.PageLemmas.{gathered_more, piece_added}
 use Rattle.text_output.specs.Gathered.{Gathers, GathersText, IsGathered}
 use Rattle.words_files.proofs.FramesOfLemmas.{file_frames}

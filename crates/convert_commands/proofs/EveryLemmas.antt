@@ -4,10 +4,10 @@ use Rattle.std.proofs.lemmas.Bool.{cases_eq, cases_lt}
 use Rattle.std.proofs.lemmas.List.Elements.{All-append, All-cons, All-nil}
 use Rattle.cc_base.specs.Rate.{rate_code, rate_of}
 use Rattle.cc_base.specs.declared.rate.Rate.TheVariants.{F2997}
-use Rattle.cc_receiver.specs.CaptionChannel.{caption_channel}
-use Rattle.cc_receiver.specs.Events.{service_events}
-use Rattle.cc_receiver.specs.Numbers.{IsService}
-use Rattle.cc_receiver.specs.ReceivedServices.{received_windows}
+use Rattle.words_reading.specs.CaptionChannel.{caption_channel}
+use Rattle.words_reading.specs.Events.{service_events}
+use Rattle.words_reading.specs.Numbers.{IsService}
+use Rattle.words_reading.specs.ReceivedServices.{received_windows}
 use Rattle.cdp_packets.proofs.PacketLemmas.{rate_of-code}
 use Rattle.cdp_packets.specs.PacketTriplets.{packet_triplets}
 use Rattle.cdp_packets.specs.Packets.{Frame}

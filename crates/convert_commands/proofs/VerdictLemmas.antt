@@ -12,7 +12,7 @@ use Rattle.rate_convert.proofs.LawLemmas.{fit_keeps}
 use Rattle.rate_convert.proofs.OnceLemmas.{fit_among, misfit_once}
 use Rattle.rate_convert.specs.Conversion.{conversion_bytes}
 use Rattle.rate_convert.specs.Misfits.{AreFit, IsMisfitAt}
-use Rattle.cc_receiver.specs.CaptionChannel.{caption_channel}
+use Rattle.words_reading.specs.CaptionChannel.{caption_channel}
 use Rattle.words_files.specs.Offences.{IsFileUnder}
 use Rattle.words_reading.proofs.HaltLemmas.{HaltsAt, frames_one, halted_at, said_fit}
 

@@ -5,7 +5,7 @@ use Rattle.command_base.specs.declared.status.Status.{Status}
 use Rattle.command_base.specs.declared.status.Status.TheVariants as status
 use Rattle.rate_convert.specs.Converters.{HasConverted, converted_frames, converter_misfit}
 use Rattle.rate_convert.specs.declared.converter.Converter.{Converter}
-use Rattle.cc_receiver.specs.CaptionChannel.{caption_channel}
+use Rattle.words_reading.specs.CaptionChannel.{caption_channel}
 use Rattle.words_files.specs.Offences.{IsUnoffending}
 use Rattle.convert_commands.specs.ConvertVerdict.{AreConverted}
 use Rattle.convert_commands.specs.declared.converting.Converting.{Converting}

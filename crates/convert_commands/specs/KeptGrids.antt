@@ -5,7 +5,7 @@ use Rattle.cdp_packets.specs.Packets.{Frame}
 use Rattle.rate_convert.specs.Conversion.{conversion, conversion_bytes}
 use Rattle.rate_convert.specs.Laws.{KeepAllGrids}
 use Rattle.rate_convert.specs.Misfits.{AreFit}
-use Rattle.cc_receiver.specs.CaptionChannel.{caption_channel}
+use Rattle.words_reading.specs.CaptionChannel.{caption_channel}
 use Rattle.words_files.specs.Offences.{IsFileUnder}
 
 -- of a words file none of whose frames has a misfit it is one of what its frames become, which at the frame 2 f + 1 shows what the file shows at f

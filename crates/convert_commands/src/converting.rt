@@ -3,11 +3,10 @@ ghost use Rattle.convert_commands.specs.ConvertVerdict.{AreConverted, ConvertHal
 ghost use Rattle.convert_commands.specs.Converting.{HasMade, IsUnderway, unfit_status};
 
 use cc_base::{Put, Refusal, Sink};
-use cc_receiver::Ended;
 use command_base::Status;
 use rate_convert::{Converter, Misfit};
 use text_output::Gathered;
-use words_reading::{Judge, Reason, Stop};
+use words_reading::{Ended, Judge, Reason, Stop};
 
 /// A frame that has a misfit, the first of all: for it a conversion stops.
 #[derive(Clone, Copy, PartialEq, Eq)]

@@ -1,3 +1,9 @@
+pub use Rattle.frame_carrier.proofs.CarriedLemmas
+pub use Rattle.frame_carrier.proofs.CarryingLemmas
+pub use Rattle.frame_carrier.proofs.EndLemmas
+pub use Rattle.frame_carrier.proofs.LanesLemmas
+pub use Rattle.frame_carrier.proofs.ListDoublingLemmas
+pub use Rattle.frame_carrier.proofs.RoomDecided
 pub use Rattle.services_shown.proofs.ChannelLemmas
 pub use Rattle.services_shown.proofs.DelayLemmas
 pub use Rattle.services_shown.proofs.LaneLemmas

@@ -1,3 +1,16 @@
+pub use Rattle.frame_carrier.specs.Carried
+pub use Rattle.frame_carrier.specs.Carrying
+pub use Rattle.frame_carrier.specs.Columns
+pub use Rattle.frame_carrier.specs.End
+pub use Rattle.frame_carrier.specs.FrameBytes
+pub use Rattle.frame_carrier.specs.FrameTriplets
+pub use Rattle.frame_carrier.specs.Frames
+pub use Rattle.frame_carrier.specs.Framing
+pub use Rattle.frame_carrier.specs.Plan
+pub use Rattle.frame_carrier.specs.Planned
+pub use Rattle.frame_carrier.specs.SlotLists
+pub use Rattle.frame_carrier.specs.declared.carrier.Carrier
+pub use Rattle.frame_carrier.specs.declared.programme.Programme
 pub use Rattle.services_shown.specs.AuthoredShown
 pub use Rattle.services_shown.specs.Buffers
 pub use Rattle.services_shown.specs.Delays

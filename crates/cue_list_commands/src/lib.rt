@@ -8,6 +8,7 @@ pub use crate::build::run_build;
 pub use crate::cues::run_cues;
 pub use crate::pairs::run_pairs;
 pub use crate::run::{Makes, run_made};
+pub use frame_carrier::{Carrier, FrameBytes, Frames, Plan, Programme, Words};
 
 mod accept;
 mod beside;

@@ -14,7 +14,7 @@ use Rattle.dual_commands.proofs.SoundLemmas.{sound_dual}
 use Rattle.dual_commands.specs.DualLists.{IsPlacedBeside, IsRefusedBeside, IsRefusedPair}
 use Rattle.dual_commands.specs.DualWords.{IsSoundDual, dual_framing}
 use Rattle.dual_commands.specs.declared.dual_of.DualOf.{DualOf}
-use Rattle.frame_carrier.specs.Framing.{words_of}
+use Rattle.cue_list_commands.specs.Framing.{words_of}
 use Rattle.command_base.specs.MadeVerdict.{MadeVerdict}
 use Rattle.dual_commands.specs.DualVerdict.{DualVerdict, IsSecond}
 use Rattle.command_base.proofs.JudgedLemmas.{beside_made, judged_made}

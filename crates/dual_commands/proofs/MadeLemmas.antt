@@ -18,9 +18,9 @@ use Rattle.dual_plans.specs.DualPlacement.{DualPlacement, IsDualPlaced, dual_col
 use Rattle.dual_plans.specs.FieldPlaces.{GoTogether}
 use Rattle.dual_plans.specs.declared.fault.DualFault.{DualFault}
 use Rattle.dual_plans.specs.declared.fault.DualFault.TheVariants.{Memory, OtherList, FieldClash, NoRoom, NoRoomBeside}
-use Rattle.frame_carrier.specs.Columns.{Columns}
+use Rattle.cue_list_commands.specs.Columns.{Columns}
 use Rattle.cue_list_commands.specs.Made.{IsMadeOf}
-use Rattle.frame_carrier.specs.declared.programme.Programme.{Programme}
+use Rattle.cue_list_commands.specs.Programme.{Programme}
 
 -- a list that breaks no rule keeps them
 pub unbroken_ruled : (list : Listing) → ((fault : RuleFault) → HasFault list fault → ⊥) → IsRuled list

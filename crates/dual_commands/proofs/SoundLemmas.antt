@@ -8,7 +8,7 @@ use Rattle.dual_plans.proofs.DualPairsLemmas.{dual_sound}
 use Rattle.dual_plans.proofs.DualShownLemmas.{both_shown}
 use Rattle.dual_plans.specs.DualPlacement.{DualPlacement, IsDualPlaced, dual_columns}
 use Rattle.dual_plans.specs.FieldPlaces.{GoTogether}
-use Rattle.frame_carrier.specs.Planned.{columns_of, share_in}
+use Rattle.cue_list_commands.specs.Planned.{columns_of, share_in}
 use Rattle.cue_list_commands.proofs.DelayLemmas.{delays_sent}
 use Rattle.cue_list_commands.proofs.SeenLemmas.{authored_windows_seen}
 use Rattle.cue_list_commands.specs.OtherPairs.{AreFitAlike}

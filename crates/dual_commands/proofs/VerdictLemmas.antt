@@ -14,7 +14,7 @@ use Rattle.dual_commands.specs.Judged.{AcceptedIsNotRefused, RefusalIsOne}
 use Rattle.dual_commands.specs.DualWords.{IsSoundDual, dual_framing}
 use Rattle.dual_commands.specs.declared.dual_of.DualOf.{DualOf}
 use Rattle.dual_commands.proofs.PairLemmas.{pair_refused_once, placed_unrefused}
-use Rattle.frame_carrier.specs.Framing.{words_of}
+use Rattle.cue_list_commands.specs.Framing.{words_of}
 
 pub accepted_not_refused : AcceptedIsNotRefused
 accepted_not_refused second bytes lists answer accepted (inl refused) = good_not_refused bytes lists.one answer accepted.good refused

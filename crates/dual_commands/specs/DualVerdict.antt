@@ -7,7 +7,7 @@ use Rattle.cue_list_commands.specs.Accepted.{IsGoodList, IsRefusedList}
 use Rattle.dual_commands.specs.DualLists.{IsPlacedBeside, IsRefusedBeside}
 use Rattle.dual_commands.specs.DualWords.{IsSoundDual, dual_framing}
 use Rattle.dual_commands.specs.declared.dual_of.DualOf.{DualOf}
-use Rattle.frame_carrier.specs.Framing.{words_of}
+use Rattle.cue_list_commands.specs.Framing.{words_of}
 
 -- the bytes are the command's second list, which keeps the rules
 abbrev pub IsSecond : List ℕ → DualOf → Type 0

@@ -4,8 +4,8 @@ use Rattle.cue_list_commands.specs.Output.{list_windows}
 use Rattle.dual_commands.specs.DualLists.{PlacedLists}
 use Rattle.dual_plans.specs.DualShown.{dual_grids, dual_told}
 use Rattle.dual_plans.specs.DualPlacement.{dual_columns}
-use Rattle.frame_carrier.specs.Planned.{share_in}
-use Rattle.frame_carrier.specs.Framing.{Framing, packets_of}
+use Rattle.cue_list_commands.specs.Planned.{share_in}
+use Rattle.cue_list_commands.specs.Framing.{Framing, packets_of}
 use Rattle.cue_list_commands.specs.Delays.{AreDelaysSent}
 use Rattle.cue_list_commands.specs.Shares.{AreSharesKept}
 use Rattle.cue_list_commands.specs.Showing.{ShowsFrames}

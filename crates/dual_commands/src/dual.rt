@@ -8,10 +8,9 @@ ghost use Rattle.dual_commands.specs.DualStatus.{fault_status};
 use crate::dual_of::DualOf;
 use cc_base::{Sink, Source, Why};
 use command_base::{Place, Status};
-use cue_list_commands::{Makes, ReadsSide, read_list, run_beside};
+use cue_list_commands::{Makes, Programme, ReadsSide, Words, read_list, run_beside};
 use cue_lists::RuleFault;
 use dual_plans::{Dual, DualFault, plan_dual};
-use frame_carrier::{Programme, Words};
 use std::alloc::Global;
 
 impl Makes for DualOf {

@@ -8,14 +8,14 @@ use Rattle.cdp_packets.specs.Packets.{Frame}
 use Rattle.cdp_packets.specs.PacketTriplets.{packet_triplets}
 use Rattle.cdp_packets.specs.Written.{cc_data_section}
 use Rattle.cdp_packets.proofs.SectionLemmas.{cc_data_section-triplets}
-use Rattle.frame_carrier.specs.Carried.{AreCarried, AreRoomy}
-use Rattle.frame_carrier.specs.Carrying.{channel_packet_of, column_packets, frame_packet, packets_before}
-use Rattle.frame_carrier.proofs.CarryingLemmas.{frame_kinds, frame_number, packet_kinds, triplets_many}
+use Rattle.cue_list_commands.specs.Carried.{AreCarried, AreRoomy}
+use Rattle.cue_list_commands.specs.Carrying.{channel_packet_of, column_packets, frame_packet, packets_before}
+use Rattle.cue_list_commands.proofs.CarryingLemmas.{frame_kinds, frame_number, packet_kinds, triplets_many}
 use Rattle.packet_inserter.specs.Insertion.{IsInserted}
 use Rattle.packet_inserter.proofs.OneWayLemmas.{inserted-triplets}
 use Rattle.cue_list_commands.specs.Told.{CarryTheSame}
 use Rattle.words_files.proofs.CarriedWordsLemmas.{IsOfBytes, all_of_bytes}
-use Rattle.frame_carrier.specs.Framing.{Framing}
+use Rattle.cue_list_commands.specs.Framing.{Framing}
 use Rattle.insert_commands.specs.Captions.{captions_of, padded}
 use Rattle.insert_commands.specs.Soundness.{HaveCaptions, HaveRate}
 use Rattle.insert_commands.specs.Soundness.HaveCaptions.{none as no_frame, more as one_more}

@@ -6,8 +6,8 @@ use Rattle.command_base.specs.declared.status.Status.{Status}
 use Rattle.command_base.specs.declared.status.Status.TheVariants as status
 use Rattle.cue_list_commands.specs.Reads.{ReadsProgramme}
 use Rattle.command_base.specs.SideEnds.{side_ends}
-use Rattle.frame_carrier.specs.Plan.{Plan}
-use Rattle.frame_carrier.specs.declared.programme.Programme.{Programme}
+use Rattle.cue_list_commands.specs.Plan.{Plan}
+use Rattle.cue_list_commands.specs.Programme.{Programme}
 use Rattle.insert_commands.specs.InsertVerdict.{HaltsInserting, InsertEnd, InsertHalts, InsertVerdict, InsertWords, SaysInserted}
 use Rattle.insert_commands.specs.InsertSteps.{HasJudged, halt_status}
 use Rattle.insert_commands.specs.declared.inserting.Halt.{Halt}
@@ -20,9 +20,9 @@ use Rattle.command_base.proofs.RealisedLemmas.{IsPlain, of_told, plain_realised}
 use Rattle.command_base.specs.Realises.{Realises, RealisesBeside}
 use Rattle.command_base.specs.WholeInput.{ReadsInput}
 use Rattle.words_reading.proofs.WordsLemmas.{ended_so, never_memory, offence_keeps_frames, read_beside, stopped_realised, whole_end}
-use Rattle.frame_carrier.specs.Framing.{Framing, HasFraming}
+use Rattle.cue_list_commands.specs.Framing.{Framing, HasFraming}
 use Rattle.insert_commands.proofs.SoundLemmas.{insertions_sound}
-use Rattle.frame_carrier.specs.Frames.{GivesFrom, frames_left}
+use Rattle.cue_list_commands.specs.Frames.{GivesFrom, frames_left}
 use Rattle.services_files.specs.CaptionChannel.{caption_channel}
 use Rattle.words_files.specs.Offences.{FirstOffendingWord, IsFileUnder}
 use Rattle.words_reading.proofs.KnownLemmas.{file_of}

@@ -6,7 +6,7 @@ use Rattle.cc_data.specs.declared.triplet.Triplet.{Triplet}
 use Rattle.cdp_packets.specs.Packets.{Frame}
 use Rattle.packet_inserter.proofs.OneWayLemmas.{inserted_once}
 use Rattle.packet_inserter.specs.Insertion.{IsInserted, packet_length}
-use Rattle.frame_carrier.specs.Framing.{Framing}
+use Rattle.cue_list_commands.specs.Framing.{Framing}
 use Rattle.insert_commands.specs.Captions.{captions_of}
 use Rattle.insert_commands.specs.InsertedFile.{AreInserted}
 use Rattle.insert_commands.specs.InsertedFile.AreInserted.{nothing, foreign as copied, caption as replaced}

@@ -17,7 +17,7 @@ use Rattle.cue_list_commands.specs.Accepted.{IsRefused}
 use Rattle.cue_list_commands.specs.Output.{IsPlacedAs, PlacedList, framing_of}
 use Rattle.findings.specs.declared.finding.Finding.{Finding}
 use Rattle.findings.specs.declared.finding.Kind45.TheVariants as kind
-use Rattle.frame_carrier.specs.Framing.{Framing}
+use Rattle.cue_list_commands.specs.Framing.{Framing}
 use Rattle.insert_commands.proofs.SoundLemmas.{insertions_sound}
 use Rattle.insert_commands.proofs.StepLemmas.{same_rate}
 use Rattle.insert_commands.specs.Captions.{captions_of}

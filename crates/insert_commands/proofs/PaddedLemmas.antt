@@ -4,20 +4,20 @@ use Rattle.std.proofs.lemmas.Bool.Decides.{nat_tests}
 use Rattle.std.proofs.lemmas.List.Elements.{All-nil}
 use Rattle.cc_base.specs.Rate.{triplets_in_frame}
 use Rattle.cc_base.specs.declared.rate.Rate.{Rate}
-use Rattle.frame_carrier.specs.Carried.{AreByteBlocks, AreBytePairs, AreCarried, AreRoomy, IsBytePair}
-use Rattle.frame_carrier.specs.Carrying.{channel_packet, packet_count, packets_before}
-use Rattle.frame_carrier.specs.FrameTriplets.{front_triplets}
-use Rattle.frame_carrier.proofs.CarriedLemmas.{frames_carried}
-use Rattle.frame_carrier.proofs.CarryingLemmas.{front_few, triplets_many}
-use Rattle.frame_carrier.specs.Columns.{pair_in}
-use Rattle.frame_carrier.specs.FrameBytes.{FrameBytes}
+use Rattle.cue_list_commands.specs.Carried.{AreByteBlocks, AreBytePairs, AreCarried, AreRoomy, IsBytePair}
+use Rattle.cue_list_commands.specs.Carrying.{channel_packet, packet_count, packets_before}
+use Rattle.cue_list_commands.specs.FrameTriplets.{front_triplets}
+use Rattle.cue_list_commands.proofs.CarriedLemmas.{frames_carried}
+use Rattle.cue_list_commands.proofs.CarryingLemmas.{front_few, triplets_many}
+use Rattle.cue_list_commands.specs.Columns.{pair_in}
+use Rattle.cue_list_commands.specs.FrameBytes.{FrameBytes}
 use Rattle.line21_codes.specs.declared.channels.FieldNumber.{FieldNumber}
 use Rattle.line21_codes.specs.declared.channels.FieldNumber.TheVariants.{One, Two}
 use Rattle.line21_codes.specs.declared.channels.Chan.TheVariants.{Cc1, Cc3}
 use Rattle.line21_slots.specs.Cadences.{cadence_of, has_slot_in}
 use Rattle.cue_list_commands.specs.ServicesCarried.{HasBlocks, IsSent}
-use Rattle.frame_carrier.specs.Framing.{Framing}
-use Rattle.frame_carrier.specs.End.{silent_frame}
+use Rattle.cue_list_commands.specs.Framing.{Framing}
+use Rattle.cue_list_commands.specs.End.{silent_frame}
 use Rattle.insert_commands.specs.Captions.{padded}
 
 -- a frame below the programme's end is the programme's

@@ -17,12 +17,12 @@ use Rattle.dtvcc_screen.specs.Meaning.{Byte, Event, Served, Tick, served_after, 
 use Rattle.dtvcc_screen.specs.Shown.{grids}
 use Rattle.cue_list_commands.specs.Filling.{AllFill}
 use Rattle.cue_list_commands.specs.ServiceLanes.{lane_frame_bytes}
-use Rattle.frame_carrier.proofs.CarriedLemmas.{frames_carried}
-use Rattle.frame_carrier.specs.Carried.{AreCarried}
-use Rattle.frame_carrier.specs.Carrying.{channel_packet, channel_packet_of, column_packets, frame_packet, packet_count, packets_before}
-use Rattle.frame_carrier.proofs.EndLemmas.{nothing_behind}
-use Rattle.frame_carrier.specs.Planned.{IsListPlaced, Placement, columns_of, service_bytes, share_in}
-use Rattle.frame_carrier.specs.FrameBytes.{FrameBytes}
+use Rattle.cue_list_commands.proofs.CarriedLemmas.{frames_carried}
+use Rattle.cue_list_commands.specs.Carried.{AreCarried}
+use Rattle.cue_list_commands.specs.Carrying.{channel_packet, channel_packet_of, column_packets, frame_packet, packet_count, packets_before}
+use Rattle.cue_list_commands.proofs.EndLemmas.{nothing_behind}
+use Rattle.cue_list_commands.specs.Planned.{IsListPlaced, Placement, columns_of, service_bytes, share_in}
+use Rattle.cue_list_commands.specs.FrameBytes.{FrameBytes}
 use Rattle.line21_codes.specs.Channels.{data_channel_of, field_of_channel}
 use Rattle.line21_codes.specs.declared.pairs.Pair.{Pair}
 use Rattle.line21_screen.specs.Fields.{channel}

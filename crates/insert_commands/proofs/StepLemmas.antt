@@ -9,10 +9,10 @@ use Rattle.cc_base.specs.declared.rate.Rate.{Rate}
 use Rattle.cc_base.specs.declared.refusal.Refusal.{Refusal}
 use Rattle.cc_base.specs.declared.streams.Put.TheVariants as put
 use Rattle.anc_words.specs.Packets.{user_bytes}
-use Rattle.cc_receiver.specs.Receivers.{frame_count}
-use Rattle.cc_receiver.specs.declared.receiver.Ended.TheVariants as ended
-use Rattle.cc_receiver.specs.declared.receiver.Fed.{Fed}
-use Rattle.cc_receiver.proofs.TakenLemmas.{frames_count}
+use Rattle.words_reading.specs.Receivers.{frame_count}
+use Rattle.words_reading.specs.Ended.TheVariants as ended
+use Rattle.words_reading.specs.Fed.{Fed}
+use Rattle.words_reading.proofs.TakenLemmas.{frames_count}
 use Rattle.cdp_packets.specs.Packets.{Frame}
 use Rattle.cdp_packets.proofs.PacketLemmas.{rate_of-code}
 use Rattle.words_files.specs.Offences.{FirstOffendingWord, IsUnoffending}
@@ -29,14 +29,14 @@ use Rattle.insert_commands.specs.InsertSteps.{HasJudged, HasLastFrame, HasReadWo
 use Rattle.insert_commands.specs.InsertedFile.{AreInserted, BringsFrame}
 use Rattle.insert_commands.specs.InsertedFile.AreInserted.{caption, foreign, nothing}
 use Rattle.insert_commands.specs.Soundness.{HaveRate}
-use Rattle.frame_carrier.specs.Framing.{Framing}
+use Rattle.cue_list_commands.specs.Framing.{Framing}
 use Rattle.insert_commands.specs.Captions.{captions_of}
 use Rattle.insert_commands.specs.ListCaptions.{GivesCaptions}
 use Rattle.words_reading.proofs.PacketEndLemmas.{not_longer}
 use Rattle.words_reading.proofs.RefusedLemmas.{frames_up_to}
 use Rattle.words_reading.proofs.PacketWayLemmas.{ends_caption, ends_foreign, read_caption, read_foreign, read_still, spelled_rest, may_follow as packets_follow}
 use Rattle.words_reading.specs.OpenPackets.{EndsCaption, HasRead, MayFollow, ReadsFront, RefusesWord, open_bytes}
-use Rattle.frame_carrier.specs.Plan.{Plan}
+use Rattle.cue_list_commands.specs.Plan.{Plan}
 use Rattle.insert_commands.specs.declared.captions.Captions.{Captions}
 use Rattle.insert_commands.specs.declared.inserting.Halt.{Halt}
 use Rattle.insert_commands.specs.declared.inserting.Inserting.{Inserting}

@@ -9,7 +9,7 @@ use Rattle.command_base.specs.declared.status.Status.TheVariants as status
 use Rattle.cue_list_commands.proofs.ListVerdictLemmas.{accepted_not_refused, accepted_once, refused_once}
 use Rattle.cue_list_commands.specs.Accepted.{IsRefused}
 use Rattle.cue_list_commands.specs.Output.{IsPlacedAs, PlacedList, framing_of}
-use Rattle.frame_carrier.specs.Framing.{Framing}
+use Rattle.cue_list_commands.specs.Framing.{Framing}
 use Rattle.insert_commands.proofs.CarryLemmas.{carry_so, never_halts, one_reason}
 use Rattle.insert_commands.specs.CanCarry.{CanCarry}
 use Rattle.insert_commands.specs.InsertSteps.{halt_status}

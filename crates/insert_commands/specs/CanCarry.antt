@@ -2,7 +2,7 @@
 -- Frames at none of which an insertion stops.
 use Rattle.std.specs.Prelude.{◌≡◌, ◌≤◌, List, ◌∷◌, ◌++◌, length}
 use Rattle.cdp_packets.specs.Packets.{Frame}
-use Rattle.frame_carrier.specs.Framing.{Framing}
+use Rattle.cue_list_commands.specs.Framing.{Framing}
 use Rattle.insert_commands.specs.Captions.{captions_of}
 use Rattle.insert_commands.specs.Soundness.{HaveRate}
 use Rattle.packet_inserter.specs.Insertion.{IsInserted, packet_length}

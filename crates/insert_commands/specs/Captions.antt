@@ -2,11 +2,11 @@
 -- The captions of a programme, frame by frame: those that it carries, and from its end on those of a frame without captions.
 use Rattle.std.specs.Prelude.{ℕ, nat_lt, if◌then◌else◌, List}
 use Rattle.cc_data.specs.declared.triplet.Triplet.{Triplet}
-use Rattle.frame_carrier.specs.Carrying.{channel_packet_of}
-use Rattle.frame_carrier.specs.FrameTriplets.{frame_triplets}
-use Rattle.frame_carrier.specs.Columns.{Columns}
-use Rattle.frame_carrier.specs.End.{silent_frame}
-use Rattle.frame_carrier.specs.Framing.{Framing}
+use Rattle.cue_list_commands.specs.Carrying.{channel_packet_of}
+use Rattle.cue_list_commands.specs.FrameTriplets.{frame_triplets}
+use Rattle.cue_list_commands.specs.Columns.{Columns}
+use Rattle.cue_list_commands.specs.End.{silent_frame}
+use Rattle.cue_list_commands.specs.Framing.{Framing}
 
 -- what every frame carries: those from the programme's end on are without captions
 abbrev pub padded : Framing → Columns

@@ -2,8 +2,8 @@
 -- Steps on the way through words in which captions are inserted.
 use Rattle.std.specs.Prelude.{◌≡◌, ◌<◌, ◌≤◌, ◌+◌, ℕ, List, [], ◌∷◌, ◌++◌, length, Result, Ok, Err}
 use Rattle.cc_base.specs.declared.limit_of.LimitOf.TheVariants as limit
-use Rattle.cc_receiver.specs.Receivers.{HasReceived, frame_count}
-use Rattle.cc_receiver.specs.declared.receiver.Receiver.{Receiver}
+use Rattle.words_reading.specs.Receivers.{HasReceived, frame_count}
+use Rattle.words_reading.specs.Receiver.{Receiver}
 use Rattle.cdp_packets.specs.Packets.{Frame}
 use Rattle.cdp_packets.specs.Sections.{AreSections}
 use Rattle.std.specs.List.{concat}
@@ -14,12 +14,12 @@ use Rattle.words_files.specs.FramesOf.{AreFramesOf}
 use Rattle.words_files.specs.Offences.{IsUnoffending}
 use Rattle.services_files.specs.CaptionChannel.{caption_channel}
 use Rattle.words_files.specs.CarriedWords.{carried_words}
-use Rattle.frame_carrier.specs.Framing.{Framing}
+use Rattle.cue_list_commands.specs.Framing.{Framing}
 use Rattle.insert_commands.specs.Captions.{captions_of}
 use Rattle.insert_commands.specs.InsertVerdict.{IsHalt, SaysInserted}
 use Rattle.insert_commands.specs.ListCaptions.{GivesCaptions}
 use Rattle.words_reading.specs.OpenPackets.{HasRead, HasReadPackets, open_bytes}
-use Rattle.frame_carrier.specs.Plan.{Plan}
+use Rattle.cue_list_commands.specs.Plan.{Plan}
 use Rattle.insert_commands.specs.declared.captions.Captions.{Captions}
 use Rattle.insert_commands.specs.declared.inserting.Halt.{Halt}
 use Rattle.insert_commands.specs.declared.inserting.Halt.TheVariants as halt

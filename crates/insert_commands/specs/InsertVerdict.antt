@@ -9,7 +9,7 @@ use Rattle.command_base.specs.declared.status.Status.TheVariants as status
 use Rattle.cue_list_commands.specs.Accepted.{IsRefused}
 use Rattle.cue_list_commands.specs.Output.{IsPlacedAs, PlacedList, framing_of}
 use Rattle.findings.specs.declared.finding.Kind45.TheVariants as kind
-use Rattle.frame_carrier.specs.Framing.{Framing}
+use Rattle.cue_list_commands.specs.Framing.{Framing}
 use Rattle.insert_commands.specs.Captions.{captions_of}
 use Rattle.insert_commands.specs.InsertedFile.{AreInserted, BringsFrame}
 use Rattle.insert_commands.specs.Soundness.{HaveRate, IsSoundInsertion}

@@ -1,12 +1,12 @@
 -- Between crates: the program's answer stands on none of these definitions.
 -- The captions of a programme on their way: what its frames have given, and what the carrier has carried.
 use Rattle.std.specs.Prelude.{◌≡◌, ℕ, ◌+◌, ◌<◌, ◌≤◌, MatchOption, Option}
-use Rattle.frame_carrier.specs.Carrying.{IsAt, packets_before}
-use Rattle.frame_carrier.specs.Columns.{Columns}
-use Rattle.frame_carrier.specs.Frames.{GivesFrom, frames_left}
-use Rattle.frame_carrier.specs.FrameBytes.{FrameBytes}
-use Rattle.frame_carrier.specs.Plan.{Plan}
-use Rattle.frame_carrier.specs.Framing.{Framing}
+use Rattle.cue_list_commands.specs.Carrying.{IsAt, packets_before}
+use Rattle.cue_list_commands.specs.Columns.{Columns}
+use Rattle.cue_list_commands.specs.Frames.{GivesFrom, frames_left}
+use Rattle.cue_list_commands.specs.FrameBytes.{FrameBytes}
+use Rattle.cue_list_commands.specs.Plan.{Plan}
+use Rattle.cue_list_commands.specs.Framing.{Framing}
 use Rattle.insert_commands.specs.Captions.{padded}
 use Rattle.insert_commands.specs.declared.captions.Captions.{Captions}
 

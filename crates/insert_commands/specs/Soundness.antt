@@ -8,7 +8,7 @@ use Rattle.cdp_packets.specs.Packets.{Frame}
 use Rattle.cue_list_commands.specs.Accepted.{IsAccepted}
 use Rattle.cue_list_commands.specs.Output.{built_packets, list_framing, list_grids, list_told, list_windows}
 use Rattle.cue_lists.specs.Listing.{Listing}
-use Rattle.frame_carrier.specs.Planned.{Placement, share_in}
+use Rattle.cue_list_commands.specs.Planned.{Placement, share_in}
 use Rattle.packet_inserter.specs.Insertion.{IsInserted}
 use Rattle.cue_list_commands.specs.Told.{CarryTheSame}
 use Rattle.cue_list_commands.specs.Buffers.{BuffersNeverFill}

@@ -1,12 +1,12 @@
 ghost use Rattle.std.specs.Prelude.{◌≡◌, ◌<◌, ◌≤◌, ◌+◌, ℕ, All, MatchBool, length};
-ghost use Rattle.frame_carrier.specs.Framing.{Framing, HasFraming};
+ghost use Rattle.cue_list_commands.specs.Framing.{Framing, HasFraming};
 ghost use Rattle.insert_commands.specs.Captions.{captions_of, padded};
 ghost use Rattle.insert_commands.specs.ListCaptions.{GivesFramed, GivesPlanned};
 
 use arrayvec::ArrayVec;
 use cc_base::Rate;
 use cc_data::Triplet;
-use frame_carrier::{Carrier, FrameBytes, Frames, Programme};
+use cue_list_commands::{Carrier, FrameBytes, Frames, Programme};
 
 /// The captions of a programme, frame by frame.
 #[derive(Drop)]

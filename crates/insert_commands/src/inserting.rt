@@ -1,11 +1,11 @@
 ghost use Rattle.std.specs.Prelude.{◌≡◌, ◌<◌, ◌≤◌, ◌++◌, ◌∷◌, [], ℕ, List, IfOk, MatchBool, length};
-ghost use Rattle.cc_receiver.specs.Receivers.{HasReceived};
+ghost use Rattle.words_reading.specs.Receivers.{HasReceived};
 ghost use Rattle.cdp_packets.specs.Packets.{Frame};
 ghost use Rattle.cdp_packets.specs.Sections.{AreSections};
 ghost use Rattle.words_files.specs.FramesOf.{AreFramesOf};
 ghost use Rattle.services_files.specs.CaptionChannel.{caption_channel};
-ghost use Rattle.frame_carrier.specs.Frames.{GivesFrom, frames_left};
-ghost use Rattle.frame_carrier.specs.Framing.{Framing, HasFraming};
+ghost use Rattle.cue_list_commands.specs.Frames.{GivesFrom, frames_left};
+ghost use Rattle.cue_list_commands.specs.Framing.{Framing, HasFraming};
 ghost use Rattle.insert_commands.specs.InsertVerdict.{HaltsInserting, SaysInserted};
 ghost use Rattle.insert_commands.specs.InsertSteps.{HasJudged, HasLastFrame, HasReadWords, Replaces, halt_status};
 ghost use Rattle.insert_commands.specs.ListCaptions.{GivesCaptions};
@@ -14,15 +14,14 @@ use crate::captions::Captions;
 use anc_words::{CAPTION_DID, CAPTION_SDID, write_packet};
 use arrayvec::ArrayVec;
 use cc_base::{LimitOf, Put, Refusal, Sink};
-use cc_receiver::{Ended, Receiver};
 use cdp_packets::WholePacket;
 use command_base::Status;
+use cue_list_commands::{Plan, Programme};
 use findings::{Finding, Kind45};
-use frame_carrier::{Plan, Programme};
 use packet_inserter::insert;
 use std::alloc::{AllocError, Global};
 use text_output::Gathered;
-use words_reading::{Judge, Packets, Reason, Stop};
+use words_reading::{Ended, Judge, Packets, Reason, Receiver, Stop};
 
 /// Why an insertion stops at a frame.
 #[derive(Clone, Copy, PartialEq, Eq)]

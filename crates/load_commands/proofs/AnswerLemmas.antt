@@ -7,13 +7,13 @@ use Rattle.cue_lists.specs.Printing.{list_bytes}
 use Rattle.cue_list_commands.specs.Accepted.{IsAccepted, IsRefused}
 use Rattle.cue_list_commands.specs.Output.{build_output, built_packets}
 use Rattle.cue_list_commands.specs.Reads.{IsProgrammeOf}
-use Rattle.frame_carrier.specs.Plan.{Plan}
-use Rattle.frame_carrier.specs.declared.programme.Programme.{Programme}
+use Rattle.cue_list_commands.specs.Plan.{Plan}
+use Rattle.cue_list_commands.specs.Programme.{Programme}
 use Rattle.cue_list_commands.proofs.ListVerdictLemmas.{accepted_not_refused, accepted_once}
 use Rattle.cue_lists.specs.Listing.{Listing}
-use Rattle.frame_carrier.specs.Columns.{Columns}
-use Rattle.frame_carrier.specs.Frames.{GivesFrom, frames_left}
-use Rattle.frame_carrier.specs.Planned.{Placement, columns_of}
+use Rattle.cue_list_commands.specs.Columns.{Columns}
+use Rattle.cue_list_commands.specs.Frames.{GivesFrom, frames_left}
+use Rattle.cue_list_commands.specs.Planned.{Placement, columns_of}
 use Rattle.load_commands.specs.LoadList.{load_list, most_load}
 use Rattle.load_commands.proofs.RuledLemmas.{list_ruled}
 use Rattle.load_commands.proofs.WrittenLemmas.{list_written}

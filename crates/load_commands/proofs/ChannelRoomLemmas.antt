@@ -19,7 +19,7 @@ use Rattle.cue_lists.specs.declared.cue.Cue.{Cue}
 use Rattle.lanes.specs.ChannelLane.{channel_chunks, field_cue_chunks, channel_chunks_from}
 use Rattle.lanes.specs.FieldLane.{end_of}
 use Rattle.lanes.specs.LaneEvents.{IsFree}
-use Rattle.frame_carrier.specs.SlotLists.{slot_cues}
+use Rattle.cue_list_commands.specs.SlotLists.{slot_cues}
 use Rattle.lanes.specs.declared.chunk.FieldChunk.{FieldChunk}
 use Rattle.load_commands.specs.LoadList.{load_cue, load_list}
 use Rattle.load_commands.proofs.SlotRoomLemmas.{HasSlotsBehind, IsWithin, two_each}

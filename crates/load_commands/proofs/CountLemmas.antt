@@ -2,8 +2,8 @@
 use Rattle.std.proofs.Common.{◌≡◌, ◌∙◌, ℕ, zero, suc, ◌+◌, if◌then◌else◌, List, [], ◌∷◌, ◌++◌, ap, sym, arith, append_assoc, append-nil}
 use Rattle.cc_base.specs.declared.rate.Rate.{Rate}
 use Rattle.cdp_packets.specs.Packets.{Frame}
-use Rattle.frame_carrier.specs.Carrying.{channel_packet_of, column_bytes, column_packets, frame_bytes, frame_packet}
-use Rattle.frame_carrier.specs.Columns.{Columns}
+use Rattle.cue_list_commands.specs.Carrying.{channel_packet_of, column_bytes, column_packets, frame_bytes, frame_packet}
+use Rattle.cue_list_commands.specs.Columns.{Columns}
 use Rattle.grid_print.specs.GridTexts.{screens_differ}
 use Rattle.grid_print.specs.Screens.{received_screens}
 use Rattle.load_commands.specs.LoadOutput.{change_count}

@@ -3,9 +3,9 @@
 use Rattle.std.proofs.Common.{ℕ, ◌≤◌, inl, inr}
 use Rattle.cue_lists.specs.declared.lane.Lane.{Lane}
 use Rattle.cue_lists.specs.declared.lane.Lane.TheVariants.{Channel, Service}
-use Rattle.frame_carrier.specs.Planned.{IsListPlaced, LaneHasRoom, Placement}
-use Rattle.frame_carrier.proofs.LanesLemmas.{earliest_room, service_room}
-use Rattle.frame_carrier.proofs.RoomDecided.{list_decided}
+use Rattle.cue_list_commands.specs.Planned.{IsListPlaced, LaneHasRoom, Placement}
+use Rattle.cue_list_commands.proofs.LanesLemmas.{earliest_room, service_room}
+use Rattle.cue_list_commands.proofs.RoomDecided.{list_decided}
 use Rattle.load_commands.specs.LoadList.{load_list, most_load}
 use Rattle.load_commands.proofs.FormedLemmas.{list_formed}
 use Rattle.load_commands.proofs.RuledLemmas.{list_ruled}

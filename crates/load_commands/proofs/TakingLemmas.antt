@@ -4,10 +4,10 @@ use Rattle.cc_base.specs.declared.rate.Rate.{Rate}
 use Rattle.cc_receiver.specs.Receivers.{HasReceived, frame_count}
 use Rattle.cc_receiver.specs.declared.receiver.Receiver.{Receiver}
 use Rattle.cdp_packets.specs.Packets.{Frame}
-use Rattle.frame_carrier.specs.Carrying.{IsAt, channel_packet, column_bytes, column_packets, frame_bytes, packet_count, packets_before}
-use Rattle.frame_carrier.specs.declared.carrier.Carrier.{Carrier}
-use Rattle.frame_carrier.specs.Columns.{Columns}
-use Rattle.frame_carrier.specs.FrameBytes.{FrameBytes}
+use Rattle.cue_list_commands.specs.Carrying.{IsAt, channel_packet, column_bytes, column_packets, frame_bytes, packet_count, packets_before}
+use Rattle.cue_list_commands.specs.Carrier.{Carrier}
+use Rattle.cue_list_commands.specs.Columns.{Columns}
+use Rattle.cue_list_commands.specs.FrameBytes.{FrameBytes}
 use Rattle.grid_print.specs.GridTexts.{screens_differ}
 use Rattle.grid_print.specs.Screens.{IsBehind, LookAlike, received_screens}
 use Rattle.grid_print.specs.Shown.{last_shown}

@@ -10,7 +10,7 @@ use Rattle.load_commands.specs.LoadOutput.{IsSummaryOf, change_count, summary_te
 use Rattle.load_commands.specs.LoadList.{load_list, most_load}
 use Rattle.load_commands.proofs.LoadRoomLemmas.{list_placed}
 use Rattle.cue_list_commands.specs.Output.{built_packets, list_framing}
-use Rattle.frame_carrier.specs.Framing.{words_of}
+use Rattle.cue_list_commands.specs.Framing.{words_of}
 use Rattle.load_commands.specs.LoadVerdict.{LoadVerdict}
 use Rattle.load_commands.specs.declared.summary.Summary.{Summary}
 use Rattle.command_base.specs.Realises.{RealisesLeaving}

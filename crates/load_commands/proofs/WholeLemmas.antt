@@ -5,8 +5,8 @@ use Rattle.cue_lists.specs.Listing.{IsFormed, Listing}
 use Rattle.cue_lists.specs.Rules.{IsRuled}
 use Rattle.cue_lists.specs.declared.lane.Lane.TheVariants.{Service}
 use Rattle.cue_list_commands.proofs.Outputs.{byte_pairs}
-use Rattle.frame_carrier.proofs.CarriedLemmas.{frames_carried}
-use Rattle.frame_carrier.specs.Planned.{IsListPlaced, Placement, columns_of}
+use Rattle.cue_list_commands.proofs.CarriedLemmas.{frames_carried}
+use Rattle.cue_list_commands.specs.Planned.{IsListPlaced, Placement, columns_of}
 use Rattle.cue_list_commands.specs.PlacedServices.{AreServicesPlaced}
 use Rattle.cue_list_commands.proofs.ChannelLemmas.{programmes_whole}
 use Rattle.cue_list_commands.proofs.RoomLemmas.{blocks_bytes, frames_roomy, has_blocks}

@@ -7,7 +7,7 @@ use Rattle.cue_form.specs.Spelling.{SpellsList}
 use Rattle.cue_form.specs.Printing.{list_bytes}
 use Rattle.cue_types.specs.Listing.{IsFormed, Listing}
 use Rattle.cue_lists.specs.Rules.{IsRuled}
-use Rattle.frame_carrier.specs.Planned.{IsListPlaced, Placement}
+use Rattle.cue_list_commands.specs.Planned.{IsListPlaced, Placement}
 use Rattle.load_commands.specs.LoadList.{load_list, most_load}
 
 -- it is in its form

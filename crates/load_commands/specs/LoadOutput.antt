@@ -1,11 +1,11 @@
 -- Believed: the program's answer stands on these definitions.
 -- What `load` puts: how many captions its list has, and what came of the list as it was planned, carried and received.
 use Rattle.std.specs.Prelude.{◌≡◌, ℕ, ◌+◌, if◌then◌else◌, List, [], ◌∷◌, ◌++◌, length, codes, decimal}
-use Rattle.frame_carrier.specs.Framing.{words_of}
+use Rattle.cue_list_commands.specs.Framing.{words_of}
 use Rattle.cc_base.specs.Texts.{text}
 use Rattle.cdp_packets.specs.Packets.{Frame}
 use Rattle.cue_list_commands.specs.Output.{built_packets, list_framing}
-use Rattle.frame_carrier.specs.Planned.{IsListPlaced, Placement}
+use Rattle.cue_list_commands.specs.Planned.{IsListPlaced, Placement}
 use Rattle.grid_print.specs.GridTexts.{screens_differ}
 use Rattle.grid_print.specs.Screens.{received_screens}
 use Rattle.load_commands.specs.LoadList.{load_list}

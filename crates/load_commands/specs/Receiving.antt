@@ -4,12 +4,12 @@ use Rattle.std.specs.Prelude.{◌≡◌, ◌≤◌, ◌+◌, ◌*◌, ◌++◌, 
 use Rattle.cc_base.specs.declared.rate.Rate.{Rate}
 use Rattle.cc_receiver.specs.Receivers.{HasReceived, frame_count}
 use Rattle.cc_receiver.specs.declared.receiver.Receiver.{Receiver}
-use Rattle.frame_carrier.specs.Plan.{Plan}
-use Rattle.frame_carrier.specs.declared.programme.Programme.{Programme}
-use Rattle.frame_carrier.specs.Carrying.{IsAt, column_bytes, column_packets, packets_before}
-use Rattle.frame_carrier.specs.Columns.{Columns}
-use Rattle.frame_carrier.specs.Frames.{GivesFrom, frames_left}
-use Rattle.frame_carrier.specs.FrameBytes.{FrameBytes}
+use Rattle.cue_list_commands.specs.Plan.{Plan}
+use Rattle.cue_list_commands.specs.Programme.{Programme}
+use Rattle.cue_list_commands.specs.Carrying.{IsAt, column_bytes, column_packets, packets_before}
+use Rattle.cue_list_commands.specs.Columns.{Columns}
+use Rattle.cue_list_commands.specs.Frames.{GivesFrom, frames_left}
+use Rattle.cue_list_commands.specs.FrameBytes.{FrameBytes}
 use Rattle.cue_types.specs.Listing.{most_frames}
 use Rattle.grid_print.specs.Screens.{LookAlike, received_screens}
 use Rattle.grid_print.specs.Shown.{last_shown}

@@ -1,14 +1,14 @@
 ghost use Rattle.std.specs.Prelude.{◌≡◌, ◌≤◌, ◌+◌, ◌++◌, ℕ, List, IfOk, length};
 ghost use Rattle.cc_base.specs.declared.rate.Rate.{Rate as OfRate};
 ghost use Rattle.cc_receiver.specs.Receivers.{HasReceived, frame_count};
-ghost use Rattle.frame_carrier.specs.Columns.{Columns};
-ghost use Rattle.frame_carrier.specs.Frames.{GivesFrom, frames_left};
+ghost use Rattle.cue_list_commands.specs.Columns.{Columns};
+ghost use Rattle.cue_list_commands.specs.Frames.{GivesFrom, frames_left};
 ghost use Rattle.load_commands.specs.Receiving.{AreAllWhole, AreWhole, HasReceivedColumns, IsSendable, MayTake, MayTakeFrame};
 
 use arrayvec::ArrayVec;
 use cc_base::Rate;
 use cc_receiver::Receiver;
-use frame_carrier::{Carrier, FrameBytes, Frames, Plan, Programme};
+use cue_list_commands::{Carrier, FrameBytes, Frames, Plan, Programme};
 use grid_print::Shown;
 use std::alloc::{AllocError, Global};
 

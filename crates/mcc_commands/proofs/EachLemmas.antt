@@ -6,7 +6,7 @@ use Rattle.anc_words.specs.Writing.{packet_of}
 use Rattle.cc_base.specs.declared.limit_of.LimitOf.{LimitOf}
 use Rattle.cc_base.specs.declared.limit_of.LimitOf.TheVariants as limit
 use Rattle.cc_base.specs.declared.refusal.Refusal.{Refusal}
-use Rattle.cc_receiver.proofs.FedFrames.{nothing_is_file, nothing_offends}
+use Rattle.words_reading.proofs.FedFrames.{nothing_is_file, nothing_offends}
 use Rattle.cdp_packets.specs.Packets.{Frame, IsCdp}
 use Rattle.mcc_files.proofs.OriginLemmas.{ended_file, lf_so, origin}
 use Rattle.mcc_files.proofs.Origins.{InLine, OriginIn}

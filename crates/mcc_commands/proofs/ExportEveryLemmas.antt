@@ -10,7 +10,7 @@ use Rattle.anc_words.specs.WordsFiles.{IsPacketBytes}
 use Rattle.cc_base.specs.Rate.{rate_code, rate_of}
 use Rattle.cc_base.specs.declared.limit_of.LimitOf.TheVariants as limit
 use Rattle.cc_base.specs.declared.rate.Rate.{Rate}
-use Rattle.cc_receiver.proofs.FedFrames.{nothing_is_file}
+use Rattle.words_reading.proofs.FedFrames.{nothing_is_file}
 use Rattle.cdp_packets.specs.Packets.{Frame, IsCdp}
 use Rattle.command_base.specs.declared.status.Status.{Status}
 use Rattle.command_base.specs.declared.status.Status.TheVariants as status

@@ -4,10 +4,10 @@ use Rattle.anc_words.specs.Packets.{AncillaryPacket, IsCaption}
 use Rattle.anc_words.specs.WordsFiles.{IsPacketBytes}
 use Rattle.cc_base.specs.declared.refusal.Refusal.{Refusal}
 use Rattle.cc_base.specs.declared.streams.Put.TheVariants as put
-use Rattle.cc_receiver.proofs.TakenLemmas.{frames_count}
-use Rattle.cc_receiver.specs.Receivers.{frame_count}
-use Rattle.cc_receiver.specs.declared.receiver.Ended.TheVariants as ended
-use Rattle.cc_receiver.specs.declared.receiver.Fed.{Fed}
+use Rattle.words_reading.proofs.TakenLemmas.{frames_count}
+use Rattle.words_reading.specs.Receivers.{frame_count}
+use Rattle.words_reading.specs.Ended.TheVariants as ended
+use Rattle.words_reading.specs.Fed.{Fed}
 use Rattle.cdp_packets.specs.Packets.{Frame}
 use Rattle.findings.specs.declared.finding.Finding.{Finding}
 use Rattle.command_base.specs.declared.status.Status.TheVariants as status
@@ -17,8 +17,7 @@ use Rattle.mcc_files.specs.Writing.{IsWrittenLine, written_head}
 use Rattle.mcc_files.specs.PayloadWords.{payload_of}
 use Rattle.words_reading.proofs.PacketEndLemmas.{not_longer}
 use Rattle.words_reading.proofs.RefusedLemmas.{frames_up_to}
-use Rattle.words_reading.proofs.PacketWayLemmas.{ends_caption, ends_foreign, read_caption, read_foreign, read_still, spelled_rest}
-use Rattle.words_reading.proofs.PacketWayLemmas.{may_follow as packets_follow}
+use Rattle.words_reading.proofs.PacketWayLemmas.{ends_caption, ends_foreign, read_caption, read_foreign, read_still, spelled_rest, may_follow as packets_follow}
 use Rattle.words_reading.specs.OpenPackets.{EndsCaption, EndsForeign, HasRead, MayFollow, ReadsFront, RefusesWord, open_bytes}
 use Rattle.words_reading.specs.declared.packets.Packets.{Packets}
 use Rattle.services_files.specs.CaptionChannel.{caption_channel}

@@ -2,23 +2,22 @@
 use Rattle.std.proofs.Common.{◌≡◌, ◌≢◌, ℕ, ◌+◌, ◌<◌, ◌≤◌, List, [], ◌∷◌, ◌++◌, length, take, drop, refl, ap, sym, subst, ◌∙◌, append_assoc, append-nil, length-append, length-drop, arith}
 use Rattle.std.proofs.lemmas.List.{length-take-le, take-append-drop}
 use Rattle.cc_base.specs.declared.refusal.Refusal.{Refusal}
-use Rattle.cc_receiver.specs.Feeds.{HasFed, HasRefused}
-use Rattle.cc_receiver.specs.Receivers.{HasReceived, frame_count}
-use Rattle.cc_receiver.specs.declared.receiver.Ended.TheVariants as ended
-use Rattle.cc_receiver.specs.declared.receiver.Fed.{Fed}
-use Rattle.cc_receiver.specs.declared.receiver.Receiver.{Receiver}
-use Rattle.cc_receiver.proofs.FedFrames.{counted_nothing, counts_one, moves_by, nothing_is_file, nothing_offends}
+use Rattle.words_reading.specs.Feeds.{HasFed, HasRefused}
+use Rattle.words_reading.specs.Receivers.{HasReceived, frame_count}
+use Rattle.words_reading.specs.Ended.TheVariants as ended
+use Rattle.words_reading.specs.Fed.{Fed}
+use Rattle.words_reading.specs.Receiver.{Receiver}
+use Rattle.words_reading.proofs.FedFrames.{counted_nothing, counts_one, moves_by, nothing_is_file, nothing_offends}
 use Rattle.services_files.specs.CaptionChannel.{caption_channel}
 use Rattle.words_files.specs.Offences.{FirstOffendingWord}
 use Rattle.mcc_files.specs.Readers.{HasRead, state_of}
 use Rattle.mcc_files.specs.Reading.{State, at_first}
 use Rattle.mcc_files.specs.declared.reader.MccReader.{MccReader}
 use Rattle.mcc_files.proofs.RunLemmas.{ok_same}
-use Rattle.mcc_commands.specs.Importing.{HasHeard, HasImported}
+use Rattle.mcc_commands.specs.Importing.{HasHeard, HasImported, IsMade}
 use Rattle.mcc_commands.specs.Words.{state_words}
 use Rattle.mcc_commands.specs.declared.hearing.Hearer.{Hearer}
 use Rattle.mcc_commands.specs.declared.importing.Importing.{Importing}
-use Rattle.mcc_commands.specs.Importing.{IsMade}
 use Rattle.mcc_commands.proofs.ImportOffenceLemmas.{no_word_first}
 use Rattle.mcc_commands.proofs.TakeLemmas.{no_lines}
 

@@ -11,7 +11,7 @@ use Rattle.cc_base.specs.declared.rate.Rate.{Rate}
 use Rattle.cc_base.specs.declared.refusal.Refusal.{Refusal}
 use Rattle.cc_base.specs.declared.streams.Put.TheVariants as put
 use Rattle.command_base.specs.Ends.{Ends, IsSteady}
-use Rattle.cc_receiver.specs.Receivers.{HasReceived, frame_count}
+use Rattle.words_reading.specs.Receivers.{HasReceived, frame_count}
 use Rattle.cdp_packets.specs.Packets.{Frame}
 use Rattle.mcc_files.specs.Lines.{HaveNoLf}
 use Rattle.mcc_files.specs.MccFiles.{TimedPackets}

@@ -13,10 +13,9 @@ use crate::lines::{caption_line, foreign_line};
 use crate::start::Start;
 use arrayvec::ArrayVec;
 use cc_base::{Put, Refusal, Sink};
-use cc_receiver::Ended;
 use std::alloc::{AllocError, Global};
 use text_output::Gathered;
-use words_reading::{Judge, Packets, Stop};
+use words_reading::{Ended, Judge, Packets, Stop};
 
 /// An export on its way: the words, packet by packet, and where the time codes stand. All memory that it takes is taken by `new`.
 #[derive(Drop)]

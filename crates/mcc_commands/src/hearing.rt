@@ -2,8 +2,8 @@ ghost use Rattle.std.specs.Prelude.{◌≡◌, ◌<◌, ◌+◌, [], List, ℕ, 
 ghost use Rattle.mcc_commands.specs.Importing.{HasHeard, HearsMore, SomeHeard};
 
 use cc_base::Refusal;
-use cc_receiver::Receiver;
 use std::alloc::{AllocError, Global};
+use words_reading::Receiver;
 
 /// Hears the words of packets, and counts their bytes.
 #[derive(Drop)]

@@ -4,8 +4,8 @@ use Rattle.cc_base.proofs.Puts.{puts_then}
 use Rattle.cc_base.specs.Streams.{Puts, Rose}
 use Rattle.cc_base.specs.declared.streams.Put.{Put}
 use Rattle.cc_base.specs.declared.streams.Put.TheVariants as put
-use Rattle.cc_receiver.proofs.FedFrames.{nothing_is_file}
-use Rattle.cc_receiver.specs.Receivers.{HasReceived}
+use Rattle.words_reading.proofs.FedFrames.{nothing_is_file}
+use Rattle.words_reading.specs.Receivers.{HasReceived}
 use Rattle.command_base.specs.Ends.{Ends, IsSteady, ends}
 use Rattle.command_base.specs.declared.status.Status.{Status}
 use Rattle.command_base.specs.declared.status.Status.TheVariants as status

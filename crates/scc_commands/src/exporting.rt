@@ -6,12 +6,11 @@ ghost use Rattle.scc_commands.specs.Exporting.{StandsBehind, reason_status};
 
 use crate::finding::find;
 use cc_base::{LimitOf, Put, Sink};
-use cc_receiver::Receiver;
 use command_base::Status;
 use findings::Finding;
 use scc_files::SccWriter;
 use text_output::Gathered;
-use words_reading::{PerFrame, Reason, Stop};
+use words_reading::{PerFrame, Reason, Receiver, Stop};
 
 /// Why an export stops at a frame.
 #[derive(Clone, Copy, PartialEq, Eq)]

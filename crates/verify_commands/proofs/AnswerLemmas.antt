@@ -3,7 +3,7 @@ use Rattle.std.proofs.Common.{◌≡◌, ◌∙◌, ◌<◌, ◌≤◌, ◌++◌
 use Rattle.std.specs.Io.KnownBytes.{Appends}
 use Rattle.cc_base.specs.Streams.{Puts, Rose}
 use Rattle.cc_base.specs.declared.streams.Put.TheVariants as put
-use Rattle.cc_receiver.proofs.TakenLemmas.{frames_count}
+use Rattle.words_reading.proofs.TakenLemmas.{frames_count}
 use Rattle.cc_verifier.specs.Verifiers.{verified_frames}
 use Rattle.cdp_packets.specs.Packets.{Frame}
 use Rattle.command_base.specs.Ends.{IsSteady, ends}
@@ -18,7 +18,7 @@ use Rattle.words_reading.proofs.WordsLemmas.{frames_stay, halted_so, limit_so, n
 use Rattle.cue_list_commands.specs.Reads.{ReadsList}
 use Rattle.cue_types.specs.Listing.{Listing}
 use Rattle.command_base.specs.SideEnds.{side_ends}
-use Rattle.cc_receiver.specs.CaptionChannel.{caption_channel}
+use Rattle.words_reading.specs.CaptionChannel.{caption_channel}
 use Rattle.words_files.specs.Offences.{FirstOffendingWord, IsFileUnder}
 use Rattle.words_reading.proofs.KnownLemmas.{file_of, known_whole}
 use Rattle.words_reading.proofs.UnderwayLemmas.{nothing_put}

@@ -5,9 +5,9 @@ use Rattle.std.specs.Option.{option_and_then}
 use Rattle.std.proofs.lemmas.Bool.{and_left, and_right, cases_Bool, cases_eq, cases_lt, ne_eqb, true≢false}
 use Rattle.std.proofs.lemmas.List.Elements.{All-cons, All-head, All-nil, All-tail}
 use Rattle.cc_base.specs.Rate.{rate_code, rate_of, triplets_in_frame}
-use Rattle.cc_receiver.specs.Events.{service_events}
-use Rattle.cc_receiver.specs.Numbers.{IsService}
-use Rattle.cc_receiver.specs.ReceivedServices.{fills_in, received_windows}
+use Rattle.words_reading.specs.Events.{service_events}
+use Rattle.words_reading.specs.Numbers.{IsService}
+use Rattle.words_reading.specs.ReceivedServices.{fills_in, received_windows}
 use Rattle.cc_verifier.specs.Differing.{ShowsOther, ShowsOtherWindow}
 use Rattle.cc_verifier.specs.Findings.{IsClean, IsFound, Jumps, Miscounts, place_of}
 use Rattle.cdp_packets.proofs.PacketLemmas.{rate_of-code}

@@ -1,7 +1,7 @@
 -- Of every side file and all words `verify` makes one status: at a frame after clean ones nothing is found, or something first.
 use Rattle.std.proofs.Common.{◌⊎◌, ◌++◌, ◌∷◌, inl, inr, length, refl, ℕ, List, []}
 use Rattle.std.proofs.lemmas.Bool.{cases_lt}
-use Rattle.cc_receiver.specs.CaptionChannel.{caption_channel}
+use Rattle.words_reading.specs.CaptionChannel.{caption_channel}
 use Rattle.cc_verifier.proofs.FindingLemmas.{clean_more, clean_none}
 use Rattle.cc_verifier.specs.Findings.{AreClean}
 use Rattle.cdp_packets.specs.Packets.{Frame}

@@ -1,12 +1,12 @@
 -- Words are judged by a verifier.
 use Rattle.std.proofs.Common.{◌≡◌, ◌∙◌, ◌+◌, ◌++◌, ◌<◌, ◌≤◌, ap, append-nil, append_assoc, arith, drop, length, length-append, refl, subst, sym, take, ℕ, List, [], ◌∷◌, Option, None, Some, Ok, Err}
 use Rattle.cc_base.specs.declared.refusal.Refusal.{Refusal}
-use Rattle.cc_receiver.proofs.FedFrames.{counted_nothing, counts_one, frame_more, frames_still, nothing_offends}
-use Rattle.cc_receiver.specs.Feeds.{Counts}
-use Rattle.cc_receiver.specs.Receivers.{frame_count}
-use Rattle.cc_receiver.specs.declared.receiver.Ended.{Ended}
-use Rattle.cc_receiver.specs.declared.receiver.Ended.TheVariants as ended
-use Rattle.cc_receiver.specs.declared.receiver.Fed.{Fed}
+use Rattle.words_reading.proofs.FedFrames.{counted_nothing, counts_one, frame_more, frames_still, nothing_offends}
+use Rattle.words_reading.specs.Feeds.{Counts}
+use Rattle.words_reading.specs.Receivers.{frame_count}
+use Rattle.words_reading.specs.Ended.{Ended}
+use Rattle.words_reading.specs.Ended.TheVariants as ended
+use Rattle.words_reading.specs.Fed.{Fed}
 use Rattle.cc_verifier.proofs.VerifierLemmas.{found_is, found_none}
 use Rattle.cc_verifier.specs.Findings.{AreClean, FirstFinding}
 use Rattle.cc_verifier.specs.Verifiers.{FeedsOn, HasVerified, JudgesFile, finding_of, list_of}
@@ -16,7 +16,7 @@ use Rattle.cc_verifier.specs.declared.verifier.Verifier.{Verifier}
 use Rattle.cdp_packets.specs.Packets.{Frame}
 use Rattle.cue_types.specs.Listing.{Listing}
 use Rattle.findings.specs.declared.finding.Finding.{Finding}
-use Rattle.cc_receiver.specs.CaptionChannel.{caption_channel}
+use Rattle.words_reading.specs.CaptionChannel.{caption_channel}
 use Rattle.words_files.proofs.FramesOfLemmas.{frames_of_once}
 use Rattle.words_files.proofs.FrontLemmas.{TwoFronts, before_it, behind_it, same, two_fronts}
 use Rattle.words_reading.proofs.PieceLemmas.{cut_short, front_size, front_spelled}

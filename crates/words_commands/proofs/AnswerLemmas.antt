@@ -4,7 +4,7 @@ use Rattle.cc_base.proofs.Puts.{puts_then}
 use Rattle.cc_base.specs.Streams.{Puts, Rose}
 use Rattle.cc_base.specs.declared.streams.Put.{Put}
 use Rattle.cc_base.specs.declared.streams.Put.TheVariants as put
-use Rattle.cc_receiver.specs.Receivers.{HasReceived}
+use Rattle.words_reading.specs.Receivers.{HasReceived}
 use Rattle.cdp_packets.specs.Packets.{Frame}
 use Rattle.command_base.specs.Ends.{Ends, IsSteady, ends}
 use Rattle.command_base.specs.declared.status.Status.{Status}
@@ -13,7 +13,7 @@ use Rattle.grid_print.specs.Screens.{LookAlike, received_screens}
 use Rattle.grid_print.specs.Shown.{last_shown}
 use Rattle.grid_print.specs.declared.shown.Shown.{Shown}
 use Rattle.line21_screen.specs.Grid.{empty_grid}
-use Rattle.cc_receiver.specs.CaptionChannel.{caption_channel}
+use Rattle.words_reading.specs.CaptionChannel.{caption_channel}
 use Rattle.words_files.specs.FramesOf.{AreFramesOf}
 use Rattle.words_reading.proofs.WordsLemmas.{ended_so, frames_stay, stopped_realised, unwritten_realised, whole_end, whole_realised}
 use Rattle.command_base.proofs.RealisedLemmas.{of_told}

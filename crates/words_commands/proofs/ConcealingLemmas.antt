@@ -8,10 +8,10 @@ use Rattle.cc_conceal.specs.Concealed.{concealed_grids, concealed_windows, missi
 use Rattle.cc_conceal.specs.Concealers.{Conceals, HasConcealed, concealed_frames, displayed_now, receiver_of}
 use Rattle.cc_conceal.specs.declared.concealer.Concealer.{Concealer}
 use Rattle.cc_conceal.proofs.StayLemmas.{grid_now}
-use Rattle.cc_receiver.proofs.FedFrames.{IsNextFrame, counted_nothing, counts_none, counts_one, frame_more, frames_still, nothing_is_file, nothing_offends}
-use Rattle.cc_receiver.specs.Feeds.{Counts, HasFed, HasRefused}
-use Rattle.cc_receiver.specs.declared.receiver.Ended.TheVariants as ended
-use Rattle.cc_receiver.specs.declared.receiver.Fed.{Fed}
+use Rattle.words_reading.proofs.FedFrames.{IsNextFrame, counted_nothing, counts_none, counts_one, frame_more, frames_still, nothing_is_file, nothing_offends}
+use Rattle.words_reading.specs.Feeds.{Counts, HasFed, HasRefused}
+use Rattle.words_reading.specs.Ended.TheVariants as ended
+use Rattle.words_reading.specs.Fed.{Fed}
 use Rattle.cdp_packets.specs.Packets.{Frame}
 use Rattle.command_base.specs.Ends.{Ends, IsSteady}
 use Rattle.dtvcc_services.specs.Numbers.{IsService}
@@ -24,7 +24,7 @@ use Rattle.line21_codes.specs.declared.channels.Chan.{Chan}
 use Rattle.line21_codes.specs.declared.channels.Chan.TheVariants.{Cc1, Cc2, Cc3, Cc4}
 use Rattle.line21_screen.specs.Grid.{Grid, empty_grid}
 use Rattle.line21_screen.specs.Meaning.{after}
-use Rattle.cc_receiver.specs.CaptionChannel.{caption_channel}
+use Rattle.words_reading.specs.CaptionChannel.{caption_channel}
 use Rattle.text_output.proofs.PageLemmas.{begun_written}
 use Rattle.text_output.specs.Gathered.{GathersText, IsGathered, answer_of, held_of}
 use Rattle.text_output.specs.Pages.{Page, Writes}

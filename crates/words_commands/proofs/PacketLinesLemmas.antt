@@ -5,7 +5,7 @@ use Rattle.std.specs.List.{flat_map}
 use Rattle.std.proofs.lemmas.Grind.{flat_map-append}
 use Rattle.std.proofs.lemmas.List.{map-append}
 use Rattle.cc_base.specs.declared.streams.Put.{Put}
-use Rattle.cc_receiver.specs.Receivers.{HasReceived}
+use Rattle.words_reading.specs.Receivers.{HasReceived}
 use Rattle.cdp_packets.specs.PacketTriplets.{packet_triplets}
 use Rattle.cdp_packets.specs.Packets.{Frame}
 use Rattle.line21_codes.specs.Reading.{code_of}

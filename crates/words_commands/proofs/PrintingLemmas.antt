@@ -17,7 +17,7 @@ use Rattle.line21_screen.specs.Grid.{empty_grid}
 use Rattle.text_output.specs.Gathered.{GathersText, IsGathered, answer_of, held_of}
 use Rattle.text_output.specs.Pages.{Page, Writes}
 use Rattle.text_output.proofs.PageLemmas.{begun_written}
-use Rattle.cc_receiver.specs.ReceivedServices.{received_windows}
+use Rattle.words_reading.specs.ReceivedServices.{received_windows}
 use Rattle.grid_print.specs.GridTexts.{all_text, changes_text}
 use Rattle.grid_print.specs.Screens.{LookAlike, Screens, received_screens}
 use Rattle.grid_print.proofs.ScreenLemmas.{changes_alike, no_changes}

@@ -1,7 +1,7 @@
 -- Of words `decode`, `conceal`, `xds-show` and `show` make one status, and of all words they make one.
 use Rattle.std.proofs.Common.{◌≡◌, ◌∙◌, ◌≤◌, ap, arith, inl, inr, length, refl, subst, suc, sym, ℕ, List, []}
 use Rattle.std.proofs.lemmas.Bool.{cases_lt}
-use Rattle.cc_receiver.specs.CaptionChannel.{caption_channel}
+use Rattle.words_reading.specs.CaptionChannel.{caption_channel}
 use Rattle.cdp_packets.specs.Packets.{Frame}
 use Rattle.command_base.specs.Exact.{HasVerdict, IsFault, IsOne}
 use Rattle.command_base.specs.declared.status.Status.{Status}

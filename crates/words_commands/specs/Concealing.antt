@@ -6,7 +6,7 @@ use Rattle.cdp_packets.specs.Packets.{Frame}
 use Rattle.grid_print.specs.Screens.{LookAlike}
 use Rattle.grid_print.specs.Shown.{last_shown}
 use Rattle.grid_print.specs.declared.shown.Shown.{Shown}
-use Rattle.cc_receiver.specs.CaptionChannel.{caption_channel}
+use Rattle.words_reading.specs.CaptionChannel.{caption_channel}
 use Rattle.words_files.specs.FramesOf.{AreFramesOf}
 use Rattle.words_files.specs.Offences.{IsUnoffending}
 use Rattle.words_commands.specs.ConcealedScreens.{concealed_changes, concealed_screens}

@@ -1,7 +1,7 @@
 ghost use Rattle.std.specs.Prelude.{◌≡◌, ◌<◌, ◌++◌, ◌∷◌, [], ℕ, List, Option};
 ghost use Rattle.cc_conceal.specs.Concealers.{HasConcealed, concealed_frames};
 ghost use Rattle.cdp_packets.specs.Packets.{Frame};
-ghost use Rattle.cc_receiver.specs.CaptionChannel.{caption_channel};
+ghost use Rattle.words_reading.specs.CaptionChannel.{caption_channel};
 ghost use Rattle.text_output.specs.Gathered.{IsGathered, held_of};
 ghost use Rattle.text_output.specs.Pages.{Adds};
 ghost use Rattle.words_files.specs.FramesOf.{AreFramesOf};
@@ -12,10 +12,9 @@ ghost use Rattle.words_commands.specs.Concealing.{HasJudgedConcealed, HasReadCon
 
 use cc_base::{Put, Refusal, Sink};
 use cc_conceal::Concealer;
-use cc_receiver::Ended;
 use grid_print::Shown;
 use text_output::Gathered;
-use words_reading::{Judge, Never, Stop};
+use words_reading::{Ended, Judge, Never, Stop};
 
 /// Words on their way through a concealing receiver, and the screens that were shown last.
 #[derive(Drop)]

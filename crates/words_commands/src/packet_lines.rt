@@ -10,10 +10,9 @@ ghost use Rattle.xds_packets.specs.Reading.{listed};
 ghost use Rattle.words_commands.specs.PacketLines.{ended_in, packet_line, packet_lines};
 
 use cc_base::{Put, Sink};
-use cc_receiver::Receiver;
 use line21_codes::Pair;
 use text_output::Gathered;
-use words_reading::{Never, PerFrame, Stop};
+use words_reading::{Never, PerFrame, Receiver, Stop};
 use xds_packets::{XdsPacket, XdsReader};
 
 /// The packets of extended data that end in each frame.

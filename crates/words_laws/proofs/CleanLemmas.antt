@@ -20,9 +20,9 @@ use Rattle.cue_lists.specs.AuthoredGrid.{authored_grid, blank}
 use Rattle.dtvcc_services.specs.Numbers.{IsService}
 use Rattle.findings.specs.declared.finding.Kind45.TheVariants as kind
 use Rattle.findings.specs.declared.finding.Which.TheVariants as which
-use Rattle.frame_carrier.specs.Carried.{AreCarried}
-use Rattle.frame_carrier.specs.Carrying.{channel_packet_of, column_packets, frame_packet}
-use Rattle.frame_carrier.specs.Columns.{Columns}
+use Rattle.cue_list_commands.specs.Carried.{AreCarried}
+use Rattle.cue_list_commands.specs.Carrying.{channel_packet_of, column_packets, frame_packet}
+use Rattle.cue_list_commands.specs.Columns.{Columns}
 use Rattle.line21_codes.specs.declared.channels.FieldNumber.TheVariants.{One, Two}
 use Rattle.line21_codes.specs.declared.channels.Chan.{Chan}
 use Rattle.line21_codes.specs.declared.channels.Chan.TheVariants.{Cc1, Cc2, Cc3, Cc4}

@@ -10,9 +10,9 @@ use Rattle.command_base.specs.declared.status.Status.TheVariants as status
 use Rattle.cue_lists.specs.Listing.{IsFormed, Listing}
 use Rattle.cue_lists.specs.declared.lane.Lane.TheVariants.{Service}
 use Rattle.cue_list_commands.proofs.RoomLemmas.{frames_roomy}
-use Rattle.frame_carrier.specs.Carried.{AreRoomy}
-use Rattle.frame_carrier.specs.Carrying.{channel_packet_of, frame_bytes}
-use Rattle.frame_carrier.specs.Planned.{Placement, columns_of}
+use Rattle.cue_list_commands.specs.Carried.{AreRoomy}
+use Rattle.cue_list_commands.specs.Carrying.{channel_packet_of, frame_bytes}
+use Rattle.cue_list_commands.specs.Planned.{Placement, columns_of}
 use Rattle.services_files.specs.CaptionChannel.{caption_channel}
 use Rattle.words_commands.proofs.VerdictLemmas.{changes_one}
 use Rattle.words_commands.specs.ConcealedScreens.{conceal_output, concealed_changes}

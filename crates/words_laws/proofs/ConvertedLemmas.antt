@@ -3,7 +3,7 @@ use Rattle.std.proofs.Common.{◌≤◌, ◌*◌, length, arith}
 use Rattle.converted_lists.proofs.FitLemmas.{lists_fit}
 use Rattle.cue_lists.specs.Listing.{IsFormed}
 use Rattle.cue_lists.specs.declared.lane.Lane.TheVariants.{Service}
-use Rattle.frame_carrier.specs.Planned.{columns_of}
+use Rattle.cue_list_commands.specs.Planned.{columns_of}
 use Rattle.cue_list_commands.proofs.RoomLemmas.{frames_roomy}
 use Rattle.cue_list_commands.specs.Output.{PlacedList, build_output, built_packets}
 use Rattle.cue_list_commands.proofs.Outputs.{sound_words}

@@ -13,9 +13,9 @@ use Rattle.cc_receiver.specs.Services.{services_say}
 use Rattle.cc_receiver.specs.declared.receiver.Receiver.{Receiver}
 use Rattle.cue_lists.specs.Listing.{IsFormed, Listing}
 use Rattle.cue_lists.specs.Rules.{IsRuled}
-use Rattle.frame_carrier.specs.Carrying.{channel_packet_of, column_bytes, frame_bytes}
-use Rattle.frame_carrier.specs.Columns.{Columns}
-use Rattle.frame_carrier.specs.Planned.{IsListPlaced, Placement, columns_of}
+use Rattle.cue_list_commands.specs.Carrying.{channel_packet_of, column_bytes, frame_bytes}
+use Rattle.cue_list_commands.specs.Columns.{Columns}
+use Rattle.cue_list_commands.specs.Planned.{IsListPlaced, Placement, columns_of}
 use Rattle.services_files.proofs.ChannelFiles.{channel_caught}
 use Rattle.services_files.proofs.OffenceLemmas.{some_or_none}
 use Rattle.services_files.specs.CaptionChannel.{caption_channel}

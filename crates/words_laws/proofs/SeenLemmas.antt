@@ -3,7 +3,7 @@
 use Rattle.std.proofs.Common.{◌≡◌, ◌∙◌, ◌++◌, ◌∷◌, ◌+◌, ◌<◌, false, add-one, ap, append_assoc, arith, length, length-append, refl, subst, suc, sym, take, ℕ, List, []}
 use Rattle.std.proofs.lemmas.List.{take-append-le, take_all}
 use Rattle.cdp_packets.specs.Packets.{Frame}
-use Rattle.frame_carrier.specs.Planned.{Placement, columns_of}
+use Rattle.cue_list_commands.specs.Planned.{Placement, columns_of}
 use Rattle.line21_codes.specs.declared.channels.Chan.{Chan}
 use Rattle.line21_codes.specs.declared.channels.Chan.TheVariants.{Cc1, Cc2, Cc3, Cc4}
 use Rattle.words_files.specs.Offences.{IsFileUnder}
@@ -31,7 +31,7 @@ use Rattle.cc_receiver.specs.declared.receiver.Receiver.{Receiver}
 use Rattle.dual_commands.proofs.SoundLemmas.{sound_dual}
 use Rattle.dual_commands.specs.DualWords.{dual_framing}
 use Rattle.dual_commands.specs.DualShown.{dual_grids, dual_told}
-use Rattle.frame_carrier.specs.Framing.{packets_of, words_of}
+use Rattle.cue_list_commands.specs.Framing.{packets_of, words_of}
 use Rattle.insert_commands.proofs.SoundLemmas.{insertions_sound}
 use Rattle.insert_commands.specs.Soundness.{HaveCaptions}
 use Rattle.insert_commands.specs.Soundness.HaveCaptions.{none, more}

@@ -2,11 +2,11 @@
 use Rattle.std.proofs.Common.{◌≡◌, ℕ, zero, suc, ◌+◌, ◌*◌, ◌≤◌, length, arith, length-append}
 use Rattle.cc_base.specs.Rate.{triplets_in_frame}
 use Rattle.cc_base.specs.declared.rate.Rate.{Rate}
-use Rattle.frame_carrier.specs.Carried.{AreRoomy}
-use Rattle.frame_carrier.specs.Carrying.{channel_packet_of, column_bytes, frame_bytes}
-use Rattle.frame_carrier.specs.FrameTriplets.{frame_triplets}
-use Rattle.frame_carrier.proofs.CarryingLemmas.{frame_number, triplets_many}
-use Rattle.frame_carrier.specs.Columns.{Columns}
+use Rattle.cue_list_commands.specs.Carried.{AreRoomy}
+use Rattle.cue_list_commands.specs.Carrying.{channel_packet_of, column_bytes, frame_bytes}
+use Rattle.cue_list_commands.specs.FrameTriplets.{frame_triplets}
+use Rattle.cue_list_commands.proofs.CarryingLemmas.{frame_number, triplets_many}
+use Rattle.cue_list_commands.specs.Columns.{Columns}
 use Rattle.words_files.proofs.CarriedWordsLemmas.{length-carried_triplets}
 
 -- the packets of so many frames

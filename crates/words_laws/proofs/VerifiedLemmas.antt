@@ -2,10 +2,10 @@
 use Rattle.std.proofs.Common.{◌≤◌, ◌*◌, ◌<◌, ℕ, length, List, arith}
 use Rattle.cue_lists.specs.Listing.{IsFormed, Listing}
 use Rattle.cue_lists.specs.declared.lane.Lane.TheVariants.{Service}
-use Rattle.frame_carrier.specs.Carried.{AreRoomy}
-use Rattle.frame_carrier.specs.Carrying.{column_bytes, column_packets}
-use Rattle.frame_carrier.specs.Columns.{Columns}
-use Rattle.frame_carrier.specs.Planned.{columns_of}
+use Rattle.cue_list_commands.specs.Carried.{AreRoomy}
+use Rattle.cue_list_commands.specs.Carrying.{column_bytes, column_packets}
+use Rattle.cue_list_commands.specs.Columns.{Columns}
+use Rattle.cue_list_commands.specs.Planned.{columns_of}
 use Rattle.line21_codes.specs.declared.channels.Chan.TheVariants.{Cc1, Cc2, Cc3, Cc4}
 use Rattle.line21_codes.specs.declared.channels.FieldNumber.TheVariants.{One, Two}
 use Rattle.cue_list_commands.specs.Shown.{ShowsList}

@@ -4,7 +4,7 @@ use Rattle.cdp_packets.specs.Packets.{Frame}
 use Rattle.cue_list_commands.proofs.ToldLemmas.{packets_count}
 use Rattle.cue_list_commands.specs.Output.{list_grids, list_told, list_windows}
 use Rattle.cue_list_commands.specs.Showing.{ShowsFrames}
-use Rattle.frame_carrier.specs.Framing.{packets_of, words_of}
+use Rattle.cue_list_commands.specs.Framing.{packets_of, words_of}
 use Rattle.xds_commands.proofs.MadeLemmas.{listed_packets}
 use Rattle.xds_commands.proofs.SoundLemmas.{sound_made}
 use Rattle.xds_commands.specs.XdsWords.{xds_framing}

@@ -4,7 +4,7 @@ use Rattle.std.specs.Prelude.{◌≤◌, ℕ, List, length}
 use Rattle.cdp_packets.specs.Packets.{Frame}
 use Rattle.converted_lists.specs.ConvertedLists.{HasShortDelays}
 use Rattle.cue_lists.specs.Listing.{Listing}
-use Rattle.frame_carrier.specs.Planned.{Placement}
+use Rattle.cue_list_commands.specs.Planned.{Placement}
 use Rattle.convert_commands.specs.Misfits.{AreFit}
 use Rattle.services_files.specs.CaptionChannel.{caption_channel}
 use Rattle.words_files.specs.Offences.{IsFileUnder}

@@ -3,7 +3,7 @@
 use Rattle.std.specs.Prelude.{ℕ, ◌≤◌, List}
 use Rattle.cue_lists.specs.Listing.{Listing}
 use Rattle.cue_lists.specs.declared.cue.Cue.{Cue}
-use Rattle.frame_carrier.specs.Planned.{Placement}
+use Rattle.cue_list_commands.specs.Planned.{Placement}
 use Rattle.cue_list_commands.specs.Accepted.{IsAccepted}
 use Rattle.cue_list_commands.specs.Output.{build_output}
 use Rattle.live_frames.specs.LaneFronts.{AreLoadedFrom}

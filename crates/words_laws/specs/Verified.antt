@@ -2,10 +2,10 @@
 -- From the words that `build` puts of a cue list, and `xds` with packets, to their verifying: they are verified against that list.
 use Rattle.std.specs.Prelude.{ℕ, List}
 use Rattle.cue_lists.specs.Listing.{Listing}
-use Rattle.frame_carrier.specs.Planned.{Placement}
+use Rattle.cue_list_commands.specs.Planned.{Placement}
 use Rattle.cue_list_commands.specs.Accepted.{IsAccepted}
 use Rattle.cue_list_commands.specs.Output.{build_output}
-use Rattle.frame_carrier.specs.Framing.{words_of}
+use Rattle.cue_list_commands.specs.Framing.{words_of}
 use Rattle.verify_commands.specs.Verified.{AreVerified}
 use Rattle.xds_commands.specs.PacketLists.{IsGoodPackets}
 use Rattle.xds_commands.specs.PlacedPackets.{IsPlacedWith, PlacedPackets}

@@ -1,3 +1,5 @@
+pub use Rattle.cc_receiver.proofs.FedFrames
+pub use Rattle.cc_receiver.proofs.TakenLemmas
 pub mod EndLemmas
 pub mod FrameLemmas
 pub mod GatheringLemmas

@@ -1,3 +1,12 @@
+pub use Rattle.cc_receiver.specs.CaptionChannel
+pub use Rattle.cc_receiver.specs.Events
+pub use Rattle.cc_receiver.specs.Feeds
+pub use Rattle.cc_receiver.specs.Numbers
+pub use Rattle.cc_receiver.specs.ReceivedServices
+pub use Rattle.cc_receiver.specs.Receivers
+pub use Rattle.cc_receiver.specs.declared.receiver.Ended
+pub use Rattle.cc_receiver.specs.declared.receiver.Fed
+pub use Rattle.cc_receiver.specs.declared.receiver.Receiver
 pub mod Causes
 pub mod FrameTexts
 pub mod FramesRead

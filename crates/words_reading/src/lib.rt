@@ -6,6 +6,7 @@ pub use crate::frames::{Frames, PerFrame};
 pub use crate::judge::{Judge, Never, Reason, Stop};
 pub use crate::packets::Packets;
 pub use crate::words::{TAKE, WORDS_LIMIT, read_words};
+pub use cc_receiver::{Ended, Receiver};
 
 mod frames;
 mod judge;

@@ -7,8 +7,8 @@ use Rattle.cue_list_commands.proofs.ListVerdictLemmas.{every_list_judged}
 use Rattle.cue_list_commands.proofs.Refusals.{are_refusals}
 use Rattle.cue_list_commands.specs.Accepted.{IsAccepted, IsRefused}
 use Rattle.cue_lists.specs.Listing.{Listing}
-use Rattle.frame_carrier.specs.Framing.{words_of}
-use Rattle.frame_carrier.specs.Planned.{Placement}
+use Rattle.cue_list_commands.specs.Framing.{words_of}
+use Rattle.cue_list_commands.specs.Planned.{Placement}
 use Rattle.xds_commands.proofs.MadeLemmas.{listed_packets}
 use Rattle.xds_commands.proofs.PacketListLemmas.{packet_refusals}
 use Rattle.xds_commands.proofs.SoundLemmas.{sound_made}

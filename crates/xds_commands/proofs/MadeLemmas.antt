@@ -7,10 +7,10 @@ use Rattle.command_base.specs.declared.status.Status.{Status}
 use Rattle.command_base.specs.declared.status.Status.TheVariants as status
 use Rattle.cue_list_commands.specs.Accepted.{IsGoodList, IsRefusedList}
 use Rattle.cue_lists.specs.Listing.{Listing}
-use Rattle.frame_carrier.specs.Columns.{Columns}
-use Rattle.frame_carrier.specs.Planned.{IsListPlaced, Placement}
+use Rattle.cue_list_commands.specs.Columns.{Columns}
+use Rattle.cue_list_commands.specs.Planned.{IsListPlaced, Placement}
 use Rattle.cue_list_commands.specs.Made.{IsMadeOf}
-use Rattle.frame_carrier.specs.declared.programme.Programme.{Programme}
+use Rattle.cue_list_commands.specs.Programme.{Programme}
 use Rattle.xds_frames.proofs.CodesLemmas.{columns_given}
 use Rattle.xds_frames.specs.XdsFrames.{AreSendable, HasXdsRoom, xds_columns}
 use Rattle.xds_commands.specs.PlacedPackets.{IsPlacedWith, IsXdsRefusal}

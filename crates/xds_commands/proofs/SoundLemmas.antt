@@ -3,11 +3,11 @@ use Rattle.std.proofs.Common.{◌≡◌, ◌∙◌, suc, ℕ, All, List, ap, ari
 use Rattle.cue_list_commands.proofs.Outputs.{byte_pairs, show_columns}
 use Rattle.cue_lists.specs.Listing.{Listing}
 use Rattle.cdp_packets.specs.Packets.{Frame}
-use Rattle.frame_carrier.specs.Carried.{AreRoomy}
-use Rattle.frame_carrier.specs.Carrying.{column_packets}
-use Rattle.frame_carrier.proofs.ListDoublingLemmas.{columns_doubled}
-use Rattle.frame_carrier.specs.Columns.{Columns}
-use Rattle.frame_carrier.specs.Planned.{Placement, columns_of, share_in}
+use Rattle.cue_list_commands.specs.Carried.{AreRoomy}
+use Rattle.cue_list_commands.specs.Carrying.{column_packets}
+use Rattle.cue_list_commands.proofs.ListDoublingLemmas.{columns_doubled}
+use Rattle.cue_list_commands.specs.Columns.{Columns}
+use Rattle.cue_list_commands.specs.Planned.{Placement, columns_of, share_in}
 use Rattle.cue_lists.specs.declared.lane.Lane.TheVariants.{Service}
 use Rattle.line21_codes.specs.declared.channels.FieldNumber.TheVariants.{Two}
 use Rattle.cue_list_commands.proofs.ToldLemmas.{take_packets}

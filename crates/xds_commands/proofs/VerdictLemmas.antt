@@ -5,9 +5,9 @@ use Rattle.command_base.specs.declared.status.Status.TheVariants as status
 use Rattle.cue_list_commands.specs.Accepted.{IsRefused, SpellGoodList}
 use Rattle.cue_list_commands.proofs.ListVerdictLemmas.{accepted_not_refused as list_not_refused, good_once, refused_once as list_refused_once}
 use Rattle.cue_lists.specs.Listing.{Listing}
-use Rattle.frame_carrier.proofs.LanesLemmas.{one_placement}
-use Rattle.frame_carrier.specs.Planned.{IsListPlaced, Placement}
-use Rattle.frame_carrier.specs.Framing.{words_of}
+use Rattle.cue_list_commands.proofs.LanesLemmas.{one_placement}
+use Rattle.cue_list_commands.specs.Planned.{IsListPlaced, Placement}
+use Rattle.cue_list_commands.specs.Framing.{words_of}
 use Rattle.xds_frames.specs.XdsFrames.{HasXdsRoom, IsFirstWithoutXdsRoom}
 use Rattle.xds_commands.specs.PacketLists.{IsRefusedPackets}
 use Rattle.xds_commands.specs.PlacedPackets.{IsPlacedWith, IsXdsRefusal}

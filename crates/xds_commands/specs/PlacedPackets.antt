@@ -5,7 +5,7 @@ use Rattle.command_base.specs.declared.status.Status.{Status}
 use Rattle.command_base.specs.declared.status.Status.TheVariants as status
 use Rattle.cue_list_commands.specs.Accepted.{IsAccepted, IsRefused, SpellGoodList}
 use Rattle.cue_lists.specs.Listing.{Listing}
-use Rattle.frame_carrier.specs.Planned.{Placement}
+use Rattle.cue_list_commands.specs.Planned.{Placement}
 use Rattle.xds_frames.specs.XdsFrames.{HasXdsRoom}
 use Rattle.xds_frames.specs.PlanAnswer.{LacksXdsRoom}
 use Rattle.xds_packets.specs.Places.{PlacedCode}

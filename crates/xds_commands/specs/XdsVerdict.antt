@@ -3,7 +3,7 @@
 use Rattle.std.specs.Prelude.{ℕ, List}
 use Rattle.command_base.specs.MadeVerdict.{BesideVerdict, MadeVerdict}
 use Rattle.command_base.specs.declared.status.Status.{Status}
-use Rattle.frame_carrier.specs.Framing.{words_of}
+use Rattle.cue_list_commands.specs.Framing.{words_of}
 use Rattle.xds_commands.specs.PacketLists.{IsGoodPackets, IsRefusedPackets}
 use Rattle.xds_commands.specs.PlacedPackets.{IsPlacedWith, IsXdsRefusal}
 use Rattle.xds_commands.specs.XdsWords.{IsSoundXds, xds_framing}

@@ -5,10 +5,10 @@ use Rattle.cue_list_commands.specs.ReceivedServices.{received_windows}
 use Rattle.cdp_packets.specs.Packets.{Frame}
 use Rattle.cue_list_commands.specs.Output.{build_output, built_packets, list_grids, list_told, list_windows}
 use Rattle.cue_lists.specs.Listing.{Listing}
-use Rattle.frame_carrier.specs.Planned.{Placement, share_in}
+use Rattle.cue_list_commands.specs.Planned.{Placement, share_in}
 use Rattle.line21_codes.specs.declared.channels.Chan.{Chan}
 use Rattle.line21_codes.specs.declared.channels.FieldNumber.TheVariants.{Two}
-use Rattle.frame_carrier.specs.Framing.{Framing, packets_of, words_of}
+use Rattle.cue_list_commands.specs.Framing.{Framing, packets_of, words_of}
 use Rattle.cue_list_commands.specs.Delays.{AreDelaysSent}
 use Rattle.cue_list_commands.specs.Shares.{AreSharesKept}
 use Rattle.cue_list_commands.specs.Showing.{ShowsFrames}

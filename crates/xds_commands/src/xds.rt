@@ -9,8 +9,7 @@ use crate::packet_list::read_packets;
 use crate::xds_of::XdsOf;
 use cc_base::{Sink, Source};
 use command_base::Status;
-use cue_list_commands::{Makes, ReadsSide, read_list, run_beside};
-use frame_carrier::{Programme, Words};
+use cue_list_commands::{Makes, Programme, ReadsSide, Words, read_list, run_beside};
 use std::alloc::Global;
 use xds_frames::{XdsFrames, XdsPlanFault, plan_xds};
 

@@ -1,5 +1,5 @@
 use Rattle.std.proofs.Common.{◌≡◌, ◌+◌, subst, arith}
-use Rattle.frame_carrier.specs.Frames.{frames_left}
+use Rattle.cue_list_commands.specs.Frames.{frames_left}
 use Rattle.load_commands.specs.Receiving.{HasReceivedColumns}
 use Rattle.load_commands.proofs.reception.receive.Goals as goal
 

@@ -1,6 +1,6 @@
 use Rattle.std.proofs.Common.{◌≡◌, ◌+◌, ℕ}
-use Rattle.frame_carrier.specs.Columns.{Columns}
-use Rattle.frame_carrier.specs.Frames.{GivesFrom, frames_left}
+use Rattle.cue_list_commands.specs.Columns.{Columns}
+use Rattle.cue_list_commands.specs.Frames.{GivesFrom, frames_left}
 use Rattle.load_commands.specs.Receiving.{AreAllWhole, HasReceivedColumns}
 use Rattle.load_commands.proofs.reception.receive.Given as goal
 

@@ -1,8 +1,8 @@
 use Rattle.std.proofs.Common.{ℕ, refl, subst, sym}
 use Rattle.std.specs.Prelude.{IsSome, Option}
 use Rattle.cc_base.specs.declared.rate.Rate.{Rate}
-use Rattle.frame_carrier.specs.Carrying.{channel_packet, frame_bytes}
-use Rattle.frame_carrier.specs.FrameBytes.{FrameBytes}
+use Rattle.cue_list_commands.specs.Carrying.{channel_packet, frame_bytes}
+use Rattle.cue_list_commands.specs.FrameBytes.{FrameBytes}
 use Rattle.caption_streams.proofs.BuilderLemmas.{carried_next, made_next}
 use Rattle.caption_streams.proofs.building.Building.carry_words.Goals as goal
 

@@ -1,6 +1,6 @@
 use Rattle.std.proofs.Common.{subst}
 use Rattle.cc_base.specs.declared.rate.Rate.{Rate}
-use Rattle.frame_carrier.specs.Carrying.{IsAt}
+use Rattle.cue_list_commands.specs.Carrying.{IsAt}
 use Rattle.caption_streams.proofs.BuilderLemmas.{begun}
 use Rattle.caption_streams.proofs.building.Building.new.Goals as goal
 

@@ -1,5 +1,5 @@
 use Rattle.std.proofs.Common.{◌∙◌, arith, length, refl, sym}
-use Rattle.cc_receiver.proofs.FedFrames.{moves_by}
+use Rattle.words_reading.proofs.FedFrames.{moves_by}
 use Rattle.convert_commands.proofs.ConvertingLemmas.{goes_on, misfit_met, no_frame, some_counted, still_underway, word_refused, words_added, words_failed}
 use Rattle.convert_commands.proofs.converting.ConvertingJudge.step.Goals as goal
 

@@ -1,10 +1,10 @@
 use Rattle.std.proofs.Common.{add-one, ap, ◌≡◌, ◌∙◌, subst, sym, ℕ, ◌+◌}
 use Rattle.cc_base.specs.declared.rate.Rate.{Rate}
-use Rattle.frame_carrier.specs.Carrying.{IsAt, channel_packet, packet_count, packets_before}
-use Rattle.frame_carrier.specs.FrameTriplets.{frame_triplets}
-use Rattle.frame_carrier.specs.declared.carrier.Carrier.{Carrier}
-use Rattle.frame_carrier.specs.Columns.{Columns}
-use Rattle.frame_carrier.specs.FrameBytes.{FrameBytes}
+use Rattle.cue_list_commands.specs.Carrying.{IsAt, channel_packet, packet_count, packets_before}
+use Rattle.cue_list_commands.specs.FrameTriplets.{frame_triplets}
+use Rattle.cue_list_commands.specs.Carrier.{Carrier}
+use Rattle.cue_list_commands.specs.Columns.{Columns}
+use Rattle.cue_list_commands.specs.FrameBytes.{FrameBytes}
 use Rattle.insert_commands.specs.Captions.{padded}
 use Rattle.insert_commands.proofs.captions.Captions.next.Goals as goal
 

@@ -1,7 +1,7 @@
 use Rattle.std.proofs.Common.{◌∙◌, ◌∷◌, ◌++◌, [], subst, sym}
 use Rattle.std.proofs.Math.Path.{fun_ext}
 use Rattle.cc_base.specs.Streams.{PutCause}
-use Rattle.cc_receiver.proofs.FedFrames.{frames_shown}
+use Rattle.words_reading.proofs.FedFrames.{frames_shown}
 use Rattle.grid_print.specs.Screens.{IsBehind, LookAlike, received_screens}
 use Rattle.text_output.proofs.PageLemmas.{some_cause}
 use Rattle.words_commands.proofs.PrintingLemmas.{alike_after, changes_gathered, idle_gathered}

@@ -1,8 +1,8 @@
 use Rattle.std.proofs.Common.{◌≡◌, ◌++◌, Err, length, refl, rules, subst, sym, take}
 use Rattle.cc_conceal.specs.Concealers.{HasConcealed, receiver_of}
 use Rattle.cc_conceal.specs.declared.concealer.Concealer.{Concealer}
-use Rattle.cc_receiver.proofs.FedFrames.{moves_by}
-use Rattle.cc_receiver.specs.Feeds.{HasFed}
+use Rattle.words_reading.proofs.FedFrames.{moves_by}
+use Rattle.words_reading.specs.Feeds.{HasFed}
 use Rattle.text_output.specs.Gathered.{IsGathered, held_of}
 use Rattle.words_commands.proofs.ConcealingLemmas.{frame_added, frame_stopped, front_concealed, next_frame, no_frame, some_frame, word_refused}
 use Rattle.words_commands.proofs.concealing.ConcealingJudge.step.Goals as goal
