@@ -8,7 +8,7 @@ use Rattle.cue_lists.specs.Rules.Sentences.{AreInSequence}
 use Rattle.cue_types.specs.Channels.{cues_on}
 use Rattle.cue_types.specs.Listing.{Listing}
 use Rattle.cue_types.specs.declared.cue.Cue.{Cue}
-use Rattle.line21_slots.specs.Cadences.{slot_step}
+use Rattle.cue_lists.specs.Cadences.{slot_step}
 use Rattle.cc_verifier.specs.Channels.{AreTimedAll}
 
 -- the first of the cues, if there is one, isn't loaded before a frame

@@ -9,8 +9,8 @@ use Rattle.cc_base.specs.declared.rate.Rate.{Rate}
 use Rattle.line21_codes.specs.Channels.{field_of_channel}
 use Rattle.line21_codes.specs.declared.channels.Chan.{Chan}
 use Rattle.line21_codes.specs.declared.channels.Chan.TheVariants as chan
-use Rattle.line21_slots.specs.Cadences.{cadence_of, slot_from, slot_step, step_of}
-use Rattle.line21_slots.proofs.CadenceLemmas.{slot_step_is}
+use Rattle.cue_lists.specs.Cadences.{cadence_of, slot_from, slot_step, step_of}
+use Rattle.cue_lists.proofs.CadenceLemmas.{slot_step_is}
 use Rattle.cue_lists.proofs.LaneCues.{lane_cues, reverse-cons}
 use Rattle.cue_lists.proofs.RulesSaid.{lanes_ruled, ruled_by_lanes}
 use Rattle.cue_lists.specs.Channels.{cues_of_service, cues_on, is_on}

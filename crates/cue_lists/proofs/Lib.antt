@@ -1,3 +1,10 @@
+pub use Rattle.cue_form.proofs.Complete
+pub use Rattle.cue_form.proofs.Faults
+pub use Rattle.cue_form.proofs.InOrder
+pub use Rattle.cue_form.proofs.ListLimits
+pub use Rattle.cue_form.proofs.PrintedFacts
+pub use Rattle.cue_form.proofs.Unique
+pub use Rattle.line21_slots.proofs.CadenceLemmas
 pub mod CellsDenied
 pub mod ChannelCues
 pub mod ChannelKept
@@ -23,9 +30,3 @@ pub mod ServiceRules
 pub mod WindowsFound
 pub mod OneAtATime
 pub mod SharesInOrder
-pub use Rattle.cue_form.proofs.Complete
-pub use Rattle.cue_form.proofs.Faults
-pub use Rattle.cue_form.proofs.ListLimits
-pub use Rattle.cue_form.proofs.Unique
-pub use Rattle.cue_form.proofs.InOrder
-pub use Rattle.cue_form.proofs.PrintedFacts

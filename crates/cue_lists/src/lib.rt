@@ -8,6 +8,7 @@ pub use cue_types::{
     Cue, CueList, Kind, LAST_SERVICE, Pen, Run, Runs, Share, Text, Version, WinCue, cue, head,
     lane, line21, list,
 };
+pub use line21_slots::Cadence;
 
 pub mod grid_laws;
 pub mod laws;

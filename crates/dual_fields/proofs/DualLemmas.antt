@@ -9,7 +9,7 @@ use Rattle.line21_screen.specs.Fields.{FieldState}
 use Rattle.line21_screen.specs.Meaning.{after}
 use Rattle.line21_screen.proofs.MeaningLemmas.{after-none}
 use Rattle.cue_lists.specs.Listing.{Listing}
-use Rattle.line21_slots.specs.Cadences.{cadence_of, slot_from}
+use Rattle.cue_lists.specs.Cadences.{cadence_of, slot_from}
 use Rattle.line21_author.specs.Channels.{cues_on}
 use Rattle.line21_author.proofs.SlotSequenceLemmas.{AreInSlots}
 use Rattle.line21_shown.specs.SlotLists.{slot_cues, slots_in_list}

@@ -7,7 +7,7 @@ use Rattle.line21_screen.specs.Fields.{FieldState}
 use Rattle.cue_lists.specs.AuthoredGrid.{IsSettled, authored_grid}
 use Rattle.cue_lists.specs.Listing.{IsFormed, Listing}
 use Rattle.cue_lists.specs.Rules.{IsRuled}
-use Rattle.line21_slots.specs.Cadences.{cadence_of, slot_in}
+use Rattle.cue_lists.specs.Cadences.{cadence_of, slot_in}
 use Rattle.line21_shown.specs.Columns.{Columns, pair_in}
 use Rattle.line21_shown.specs.SlotLists.{slot_cues}
 use Rattle.lanes.specs.Timeline.{slot}

@@ -2,7 +2,7 @@
 use Rattle.std.proofs.Common.{◌≡◌, ℕ, is_some, Option, Some, None, option_map, refl}
 use Rattle.line21_codes.specs.declared.channels.Chan.TheVariants.{Cc1, Cc3}
 use Rattle.line21_codes.specs.declared.pairs.Pair.{Pair}
-use Rattle.line21_slots.specs.Cadences.{cadence_of, slot_in}
+use Rattle.cue_lists.specs.Cadences.{cadence_of, slot_in}
 use Rattle.cue_lists.specs.Listing.{Listing}
 use Rattle.frame_carrier.specs.Planned.{columns_of}
 use Rattle.services_shown.specs.OtherPairs.{HaveOtherPairs}

@@ -7,7 +7,7 @@ use Rattle.line21_codes.specs.declared.channels.FieldNumber.TheVariants.{One, Tw
 use Rattle.line21_codes.specs.Channels.{field_of_channel}
 use Rattle.cue_lists.specs.Listing.{Listing}
 use Rattle.line21_author.specs.declared.unit.Unit.{Unit}
-use Rattle.line21_slots.specs.Cadences.{cadence_of, slot_in}
+use Rattle.cue_lists.specs.Cadences.{cadence_of, slot_in}
 use Rattle.frame_carrier.specs.Carried.{AreBytePairs, IsBytePair}
 use Rattle.lanes.specs.DoubledPairs.{IsDoubled}
 use Rattle.frame_carrier.specs.SlotLists.{slot_cues, slots_in_list}

@@ -3,7 +3,7 @@ use Rattle.std.proofs.Common.{◌≡◌, ap, ◌∙◌}
 use Rattle.std.specs.Prelude.{IfErr, IfOk, Result, Ok, Err, Vec}
 use Rattle.std.specs.Global.{Global}
 use Rattle.line21_codes.specs.declared.channels.Chan.{Chan}
-use Rattle.line21_slots.specs.Cadences.{cadence_of, slot_from}
+use Rattle.cue_lists.specs.Cadences.{cadence_of, slot_from}
 use Rattle.cue_lists.specs.Listing.{Listing}
 use Rattle.lanes.specs.LaneEvents.{event_at}
 use Rattle.frame_carrier.specs.SlotLists.{slots_in_list}

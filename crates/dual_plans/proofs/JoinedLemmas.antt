@@ -6,8 +6,8 @@ use Rattle.line21_codes.specs.declared.channels.Chan.TheVariants.{Cc1, Cc3}
 use Rattle.line21_codes.specs.declared.channels.FieldNumber.{FieldNumber}
 use Rattle.line21_codes.specs.declared.channels.FieldNumber.TheVariants.{One, Two}
 use Rattle.line21_codes.specs.declared.pairs.Pair.{Pair}
-use Rattle.line21_slots.specs.Cadences.{cadence_of, slot_from, slot_in}
-use Rattle.line21_slots.proofs.CadenceLemmas.{slot_from_first}
+use Rattle.cue_lists.specs.Cadences.{cadence_of, slot_from, slot_in}
+use Rattle.cue_lists.proofs.CadenceLemmas.{slot_from_first}
 use Rattle.cue_lists.specs.Listing.{Listing}
 use Rattle.cue_lists.specs.declared.lane.Lane.TheVariants.{Service}
 use Rattle.lanes.specs.ServicePlan.{PlannedService}

@@ -3,8 +3,8 @@ use Rattle.std.proofs.Common.{◌≡◌, ℕ, ◌+◌, Option, sym, ap, ◌∙�
 use Rattle.cc_base.specs.declared.rate.Rate.{Rate}
 use Rattle.line21_codes.specs.declared.channels.Chan.TheVariants.{Cc1, Cc3}
 use Rattle.line21_codes.specs.declared.pairs.Pair.{Pair}
-use Rattle.line21_slots.specs.Cadences.{cadence_of, slot_from}
-use Rattle.line21_slots.specs.declared.cadence.Cadence.{Cadence}
+use Rattle.cue_lists.specs.Cadences.{cadence_of, slot_from}
+use Rattle.cue_lists.specs.Cadence.{Cadence}
 use Rattle.frame_carrier.specs.Columns.{Columns}
 use Rattle.frame_carrier.proofs.NextFrameLemmas.{behind_at, given_is}
 use Rattle.lanes.specs.FieldPlan.{PlannedField, behind_frame, given_in, lane_pair}

@@ -1,8 +1,8 @@
 -- Between crates: the program's answer stands on none of these definitions.
 -- The frames of a dual plan carry the timelines of both lanes of a field.
-use Rattle.std.specs.Prelude.{◌≡◌, ℕ, true, List, Option, option_map}
-use Rattle.line21_slots.specs.Cadences.{slot_in}
-use Rattle.line21_slots.specs.declared.cadence.Cadence.{Cadence}
+use Rattle.std.specs.Prelude.{◌≡◌, ℕ, true, List, Option, option_map, None}
+use Rattle.cue_lists.specs.Cadences.{slot_in}
+use Rattle.cue_lists.specs.Cadence.{Cadence}
 use Rattle.line21_author.specs.declared.event.Event.{Event}
 use Rattle.lanes.specs.LaneEvents.{IsFree, event_at}
 use Rattle.lanes.specs.FieldPlan.{PlannedField, lane_pair}
@@ -14,7 +14,6 @@ use Rattle.dual_fields.specs.Slots.{Slots}
 use Rattle.dual_fields.specs.declared.part.Part.{Part}
 use Rattle.dual_fields.specs.Expanded.{expanded, spread}
 use Rattle.dual_fields.specs.Together.{AreTogether}
-use Rattle.std.specs.Prelude.{None}
 use Rattle.dual_plans.specs.Beside.{beside}
 
 -- a planned lane has these events and units, with those that come again

@@ -3,7 +3,7 @@
 use Rattle.std.specs.Prelude.{◌≡◌, ℕ}
 use Rattle.cc_base.specs.declared.rate.Rate.{Rate}
 use Rattle.line21_codes.specs.declared.channels.Chan.TheVariants.{Cc1, Cc3}
-use Rattle.line21_slots.specs.Cadences.{cadence_of, slot_from}
+use Rattle.cue_lists.specs.Cadences.{cadence_of, slot_from}
 use Rattle.frame_carrier.specs.Columns.{Columns}
 use Rattle.lanes.specs.FieldPlan.{PlannedField, lane_pair}
 use Rattle.dual_plans.specs.Beside.{beside, lanes_last}

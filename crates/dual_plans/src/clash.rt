@@ -6,9 +6,8 @@ ghost use Rattle.dual_plans.specs.CueEvents.{AreOrdered};
 ghost use Rattle.frame_carrier.specs.Planned.{authored_channel};
 
 use crate::cue_event::{CueEvent, cue_events};
-use cue_lists::CueList;
+use cue_lists::{Cadence, CueList};
 use line21_codes::Chan;
-use line21_slots::Cadence;
 use std::alloc::{AllocError, Global};
 
 /// Two cues whose events hold one slot of a field, by their numbers, which are counted from 1.

@@ -5,11 +5,10 @@ ghost use Rattle.line21_author.specs.CueEvents.{is_replaced_at};
 ghost use Rattle.line21_author.specs.CueSlots.{cues_in_slots, timed_in_slots};
 ghost use Rattle.dual_plans.specs.CueEvents.{numbered, events_from, own_events};
 
-use cue_lists::Cue;
 use cue_lists::lane::is_pop;
 use cue_lists::line21::is_on;
+use cue_lists::{Cadence, Cue};
 use line21_codes::Chan;
-use line21_slots::Cadence;
 use std::alloc::{AllocError, Global};
 
 /// An event of a cue: the slot in which it begins, counted from 0, and the number of its cue, counted from 1.

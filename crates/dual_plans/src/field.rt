@@ -8,11 +8,10 @@ ghost use Rattle.dual_plans.specs.StartedFields.{IsStarted};
 
 use crate::list_lane::{ListLane, first_lane, second_lane};
 use crate::places::{first_places, second_places};
-use cue_lists::CueList;
+use cue_lists::{Cadence, CueList};
 use dual_fields::Place;
 use lanes::PlanFault;
 use line21_codes::Chan;
-use line21_slots::Cadence;
 use std::alloc::Global;
 
 /// What two lists send in a field, and where the units of the first stand.

@@ -5,11 +5,10 @@ ghost use Rattle.dual_plans.specs.ListLanes.{HasUnitsWithin, IsFirstLane, IsSeco
 ghost use Rattle.frame_carrier.specs.SlotLists.{slots_in_list};
 
 use crate::{channel_parts, second_events, second_parts};
-use cue_lists::CueList;
+use cue_lists::{Cadence, CueList};
 use dual_fields::Part;
 use line21_author::{Event, events};
 use line21_codes::Chan;
-use line21_slots::Cadence;
 use std::alloc::{AllocError, Global};
 
 /// What a list sends in the field of a channel: the units of its cues and its events, in slots of the field.

@@ -6,13 +6,12 @@ ghost use Rattle.lanes.specs.ChannelLane.{field_cue_chunks};
 ghost use Rattle.dual_plans.specs.PartsBehind.{part_behind};
 ghost use Rattle.dual_fields.specs.ChannelParts.{channel_parts, parts_of};
 
-use cue_lists::Cue;
 use cue_lists::line21::is_on;
+use cue_lists::{Cadence, Cue};
 use dual_fields::Part;
 use lanes::FieldChunk;
 use line21_author::{Unit, units};
 use line21_codes::Chan;
-use line21_slots::Cadence;
 use std::alloc::{AllocError, Global};
 
 /// The units of the cues on a channel, in the order of the cues, each with the first unit of its cue; the times of the cues in slots

@@ -3,10 +3,10 @@ ghost use Rattle.lanes.specs.FieldPlan.{behind_frame, given_in};
 ghost use Rattle.dual_plans.specs.Beside.{beside};
 
 use cc_base::Rate;
+use cue_lists::Cadence;
 use frame_carrier::{FrameBytes, Overlay};
 use lanes::PlacedField;
 use line21_codes::{Chan, Pair};
-use line21_slots::Cadence;
 
 /// The second lanes of both fields, whose pairs go into null slots.
 #[derive(Drop)]

@@ -22,8 +22,8 @@ use Rattle.line21_codes.specs.NullPairs.{null_pair}
 use Rattle.line21_codes.specs.declared.channels.Chan.{Chan}
 use Rattle.line21_codes.specs.declared.channels.Chan.TheVariants.{Cc1, Cc3}
 use Rattle.line21_codes.specs.declared.pairs.Pair.{Pair}
-use Rattle.line21_slots.specs.Cadences.{cadence_of, has_slot_in, slot_from}
-use Rattle.line21_slots.proofs.CadenceLemmas.{slots_rise}
+use Rattle.cue_lists.specs.Cadences.{cadence_of, has_slot_in, slot_from}
+use Rattle.cue_lists.proofs.CadenceLemmas.{slots_rise}
 use Rattle.lanes.specs.Placing.{IsPlaced}
 use Rattle.lanes.proofs.CaptionsKept.{captions_kept}
 use Rattle.lanes.specs.Chunks.{ServiceChunk}

@@ -19,9 +19,9 @@ use Rattle.cue_lists.specs.declared.cue.Run.{Run}
 use Rattle.cue_lists.specs.declared.lane.Lane.{Lane}
 use Rattle.cue_lists.specs.declared.lane.Lane.TheVariants.{Channel, Service}
 use Rattle.lanes.specs.Channels.{is_on, same_channel}
-use Rattle.line21_slots.specs.Cadences.{cadence_of, slot_from, slot_in}
+use Rattle.cue_lists.specs.Cadences.{cadence_of, slot_from, slot_in}
 use Rattle.lanes.specs.CueEvents.{channel_events}
-use Rattle.line21_slots.proofs.CadenceLemmas.{slot_from_first}
+use Rattle.cue_lists.proofs.CadenceLemmas.{slot_from_first}
 use Rattle.lanes.proofs.CueSlotLemmas.{cues_formed_in_slots}
 use Rattle.lanes.specs.Event.{Event}
 use Rattle.lanes.specs.ChannelLane.{IsChannelPlaced, channel_chunks, channel_slot, channel_chunks_from}

@@ -16,9 +16,9 @@ use Rattle.cue_lists.specs.declared.cue.Cue.{Cue}
 use Rattle.cue_lists.specs.declared.lane.Lane.TheVariants.{Channel}
 use Rattle.line21_codes.specs.declared.pairs.Pair.{Pair}
 use Rattle.lanes.specs.Channels.{cues_on, is_on}
-use Rattle.line21_slots.specs.Cadences.{cadence_of, has_slot_in, slot_from, slot_in}
-use Rattle.line21_slots.specs.declared.cadence.Cadence.{Cadence}
-use Rattle.line21_slots.proofs.CadenceLemmas.{slot_from_first, slot_more, slot_no_more}
+use Rattle.cue_lists.specs.Cadences.{cadence_of, has_slot_in, slot_from, slot_in}
+use Rattle.cue_lists.specs.Cadence.{Cadence}
+use Rattle.cue_lists.proofs.CadenceLemmas.{slot_from_first, slot_more, slot_no_more}
 use Rattle.lanes.specs.CueEvents.{channel_events}
 use Rattle.lanes.specs.CueUnits.{units_of}
 use Rattle.lanes.specs.EventPairs.{IsControlEvent}

@@ -6,9 +6,9 @@ use Rattle.std.proofs.lemmas.List.Elements.{All-cons, All-head, All-nil, All-tai
 use Rattle.arrayvec.specs.ArrayVec.{ArrayVec}
 use Rattle.line21_codes.specs.declared.channels.Chan.TheVariants.{Cc1, Cc3}
 use Rattle.line21_codes.specs.declared.pairs.Pair.{Pair}
-use Rattle.line21_slots.specs.Cadences.{cadence_of, has_slot_in, slot_from}
-use Rattle.line21_slots.specs.declared.cadence.Cadence.{Cadence}
-use Rattle.line21_slots.proofs.CadenceLemmas.{slot_more, slot_no_more}
+use Rattle.cue_lists.specs.Cadences.{cadence_of, has_slot_in, slot_from}
+use Rattle.cue_lists.specs.Cadence.{Cadence}
+use Rattle.cue_lists.proofs.CadenceLemmas.{slot_more, slot_no_more}
 use Rattle.std.proofs.lemmas.List.Sums.{sum_by-cons}
 use Rattle.lanes.specs.ServicePlan.{PlannedService}
 use Rattle.frame_scheduler.specs.Blocks.{blocks_of, blocks_room, lane_block, moved_on, next_blocks}

@@ -12,7 +12,7 @@ use Rattle.cc_base.specs.declared.rate.Rate.{Rate}
 use Rattle.cc_base.specs.declared.rate.Rate.TheVariants as rate
 use Rattle.line21_codes.specs.declared.channels.Chan.TheVariants.{Cc1, Cc3}
 use Rattle.line21_codes.specs.declared.pairs.Pair.{Pair}
-use Rattle.line21_slots.specs.Cadences.{cadence_of, slot_from}
+use Rattle.cue_lists.specs.Cadences.{cadence_of, slot_from}
 use Rattle.cue_lists.specs.Listing.{IsFormed, Listing, share_of}
 use Rattle.cue_lists.specs.Rules.{IsRuled}
 use Rattle.cue_lists.specs.Shares.{share_room, shares_taken}

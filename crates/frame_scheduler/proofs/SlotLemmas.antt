@@ -2,8 +2,8 @@
 use Rattle.std.proofs.Common.{ℕ, All, sym, subst}
 use Rattle.std.proofs.lemmas.List.Elements.{recursion_from_All}
 use Rattle.line21_codes.specs.declared.channels.Chan.{Chan}
-use Rattle.line21_slots.specs.Cadences.{cadence_of, slot_from, step_of}
-use Rattle.line21_slots.proofs.CadenceLemmas.{slot_step_is}
+use Rattle.cue_lists.specs.Cadences.{cadence_of, slot_from, step_of}
+use Rattle.cue_lists.proofs.CadenceLemmas.{slot_step_is}
 use Rattle.cue_lists.specs.Channels.{cues_on}
 use Rattle.cue_lists.specs.Cues.{IsCueFormed}
 use Rattle.cue_lists.specs.Listing.{IsFormed, Listing}

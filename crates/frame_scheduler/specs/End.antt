@@ -8,7 +8,7 @@ use Rattle.line21_codes.specs.NullPairs.{null_pair}
 use Rattle.line21_codes.specs.declared.channels.Chan.{Chan}
 use Rattle.line21_codes.specs.declared.channels.Chan.TheVariants.{Cc1, Cc3}
 use Rattle.line21_codes.specs.declared.pairs.Pair.{Pair}
-use Rattle.line21_slots.specs.Cadences.{cadence_of, has_slot_in}
+use Rattle.cue_lists.specs.Cadences.{cadence_of, has_slot_in}
 use Rattle.frame_scheduler.specs.Planned.{IsListPlaced, Placement, columns_of}
 use Rattle.frame_scheduler.specs.declared.frames.FrameBytes.{FrameBytes}
 

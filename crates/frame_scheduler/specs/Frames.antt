@@ -3,7 +3,7 @@
 use Rattle.std.specs.Prelude.{◌≡◌, ℕ, ⊤, [], ◌∷◌, All, Result, Ok, Err}
 use Rattle.line21_codes.specs.declared.channels.Chan.TheVariants.{Cc1, Cc3}
 use Rattle.cue_lists.specs.Listing.{Listing}
-use Rattle.line21_slots.specs.Cadences.{cadence_of, slot_from}
+use Rattle.cue_lists.specs.Cadences.{cadence_of, slot_from}
 use Rattle.frame_scheduler.specs.declared.frames.Plan.{Plan}
 use Rattle.lanes.specs.declared.planning.PlanFault.{PlanFault}
 use Rattle.lanes.specs.declared.planning.PlanFault.TheVariants.{Memory, NoRoom}

@@ -2,7 +2,7 @@
 -- A cue list in slots: on each channel, the cues with their times in slots of the channel's field.
 use Rattle.std.specs.Prelude.{ℕ, List}
 use Rattle.line21_codes.specs.declared.channels.Chan.{Chan}
-use Rattle.line21_slots.specs.Cadences.{cadence_of, slot_from}
+use Rattle.cue_lists.specs.Cadences.{cadence_of, slot_from}
 use Rattle.cue_lists.specs.Listing.{Listing}
 use Rattle.cue_lists.specs.declared.cue.Cue.{Cue}
 use Rattle.lanes.specs.CueSlots.{cues_in_slots}

@@ -7,9 +7,9 @@ ghost use Rattle.lanes.specs.FieldPlan.{PlannedField, behind_frame, given_in};
 use crate::blocks::next_blocks;
 use arrayvec::ArrayVec;
 use cc_base::Rate;
+use cue_lists::Cadence;
 use lanes::{PlacedField, PlacedService};
 use line21_codes::{Chan, NULL_PAIR, Pair};
-use line21_slots::Cadence;
 
 /// What one frame carries.
 #[derive(Drop)]

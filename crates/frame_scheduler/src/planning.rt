@@ -6,7 +6,7 @@ ghost use Rattle.dtvcc_author.specs.Captions.{service_captions};
 ghost use Rattle.dtvcc_author.specs.Kept.{AreKept};
 ghost use Rattle.lanes.specs.ServiceChunks.{service_chunks};
 ghost use Rattle.lanes.specs.ServicePlan.{IsServiceFault, IsServicePlan};
-ghost use Rattle.line21_slots.specs.Cadences.{cadence_of};
+ghost use Rattle.cue_lists.specs.Cadences.{cadence_of};
 ghost use Rattle.lanes.specs.CueSlots.{cues_in_slots};
 ghost use Rattle.lanes.specs.CueEvents.{channel_events};
 ghost use Rattle.lanes.specs.EventOrder.{AreApart};
@@ -18,12 +18,12 @@ ghost use Rattle.frame_scheduler.specs.ServicePlans.{AreServices, IsBeside};
 
 use crate::frames::Plan;
 use cc_base::Rate;
+use cue_lists::Cadence;
 use lanes::{
     Cue, CueList, FieldLane, LAST_SERVICE, PlacedField, PlacedService, PlanFault, ServiceLane,
     captions, channel_chunks, events, service_chunks,
 };
 use line21_codes::Chan;
-use line21_slots::Cadence;
 use std::alloc::Global;
 
 /// Places the units of a cue list that keeps the rules: each in the first slot or frame that its cue, the units before it in its

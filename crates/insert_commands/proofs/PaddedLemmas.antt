@@ -14,7 +14,7 @@ use Rattle.cue_list_commands.specs.FrameBytes.{FrameBytes}
 use Rattle.line21_codes.specs.declared.channels.FieldNumber.{FieldNumber}
 use Rattle.line21_codes.specs.declared.channels.FieldNumber.TheVariants.{One, Two}
 use Rattle.line21_codes.specs.declared.channels.Chan.TheVariants.{Cc1, Cc3}
-use Rattle.line21_slots.specs.Cadences.{cadence_of, has_slot_in}
+use Rattle.cue_lists.specs.Cadences.{cadence_of, has_slot_in}
 use Rattle.cue_list_commands.specs.ServicesCarried.{HasBlocks, IsSent}
 use Rattle.cue_list_commands.specs.Framing.{Framing}
 use Rattle.cue_list_commands.specs.End.{silent_frame}

@@ -2,9 +2,9 @@
 use Rattle.std.proofs.Common.{◌≡◌, ◌<◌, ◌≤◌, ℕ, List, [], ◌∷◌, ◌++◌, map, refl, sym, ap, ◌∙◌, subst, arith, ⊎_elim}
 use Rattle.std.proofs.lemmas.Bool.{cases_lt}
 use Rattle.std.proofs.lemmas.List.{map-append}
-use Rattle.line21_slots.specs.Cadences.{slot_frame}
-use Rattle.line21_slots.specs.declared.cadence.Cadence.{Cadence}
-use Rattle.line21_slots.specs.declared.cadence.Cadence.TheVariants.{EveryFrame, EvenFrames, OddFrames}
+use Rattle.cue_lists.specs.Cadences.{slot_frame}
+use Rattle.cue_lists.specs.Cadence.{Cadence}
+use Rattle.cue_lists.specs.Cadence.TheVariants.{EveryFrame, EvenFrames, OddFrames}
 use Rattle.lanes.specs.Placing.{IsEarliest, IsPlaced, NoLater}
 use Rattle.lanes.specs.SlotPlacing.{EarliestInFrames, IsRising, all_in_frames, allowed_in_frames}
 

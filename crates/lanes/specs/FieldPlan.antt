@@ -3,8 +3,8 @@
 use Rattle.std.specs.Prelude.{◌≡◌, ℕ, ◌+◌, List, ⊤, Option, Some, None, if◌then◌else◌}
 use Rattle.std.specs.Option.{option_map}
 use Rattle.line21_codes.specs.declared.pairs.Pair.{Pair}
-use Rattle.line21_slots.specs.Cadences.{has_slot_in, slot_in}
-use Rattle.line21_slots.specs.declared.cadence.Cadence.{Cadence}
+use Rattle.cue_lists.specs.Cadences.{has_slot_in, slot_in}
+use Rattle.cue_lists.specs.Cadence.{Cadence}
 use Rattle.line21_author.specs.declared.event.Event.{Event}
 use Rattle.lanes.specs.FieldLane.{field_lane}
 use Rattle.lanes.specs.LaneRoom.{IsFirstCrowded}

@@ -2,8 +2,8 @@
 -- Placements in slots and in frames. Each slot of a field lies in a frame, a later one in a later frame: the earliest placement
 -- in slots is the earliest in the frames of these slots.
 use Rattle.std.specs.Prelude.{◌≡◌, ℕ, ◌<◌, List, map}
-use Rattle.line21_slots.specs.Cadences.{slot_frame}
-use Rattle.line21_slots.specs.declared.cadence.Cadence.{Cadence}
+use Rattle.cue_lists.specs.Cadences.{slot_frame}
+use Rattle.cue_lists.specs.Cadence.{Cadence}
 use Rattle.lanes.specs.Placing.{IsEarliest}
 
 -- the units with the frames of their slots

@@ -5,10 +5,10 @@ ghost use Rattle.line21_author.specs.CueSlots.{cues_in_slots, timed_in_slots};
 ghost use Rattle.lanes.specs.ChannelLane.{channel_chunks, field_cue_chunks};
 
 use crate::chunk::FieldChunk;
+use cue_lists::Cadence;
 use line21_author::line21::is_on;
 use line21_author::{Cue, units};
 use line21_codes::Chan;
-use line21_slots::Cadence;
 use std::alloc::{AllocError, Global};
 
 /// The units of the cues on a channel, in the order of the cues, their times in slots of the channel's field.

@@ -16,8 +16,8 @@ use Rattle.line21_author.specs.declared.event.Event.{Event}
 use Rattle.line21_codes.specs.declared.channels.Chan.{Chan}
 use Rattle.line21_codes.specs.Channels.{field_of_channel}
 use Rattle.line21_author.specs.Channels.{cues_on}
-use Rattle.line21_slots.specs.Cadences.{slot_from, step_of}
-use Rattle.line21_slots.specs.declared.cadence.Cadence.{Cadence}
+use Rattle.cue_lists.specs.Cadences.{slot_from, step_of}
+use Rattle.cue_lists.specs.Cadence.{Cadence}
 use Rattle.line21_author.specs.CueSlots.{cues_in_slots}
 use Rattle.line21_author.specs.FirstChannel.{first_channel}
 use Rattle.line21_author.specs.CueEvents.{control_event, show_events, hide_events, is_replaced_at, cue_events, channel_events}

@@ -10,10 +10,10 @@ use Rattle.cue_lists.specs.declared.cue.Cue.{Cue}
 use Rattle.cue_lists.specs.declared.cue.Kind.{Kind}
 use Rattle.cue_lists.specs.declared.cue.Kind.TheVariants as kind
 use Rattle.cue_lists.specs.declared.cue.Run.{Run}
-use Rattle.line21_slots.specs.Cadences.{slot_from}
-use Rattle.line21_slots.specs.declared.cadence.Cadence.{Cadence}
-use Rattle.line21_slots.specs.declared.cadence.Cadence.TheVariants.{EveryFrame}
-use Rattle.line21_slots.proofs.CadenceLemmas.{slot_low}
+use Rattle.cue_lists.specs.Cadences.{slot_from}
+use Rattle.cue_lists.specs.Cadence.{Cadence}
+use Rattle.cue_lists.specs.Cadence.TheVariants.{EveryFrame}
+use Rattle.cue_lists.proofs.CadenceLemmas.{slot_low}
 use Rattle.line21_author.specs.CueSlots.{cues_in_slots, timed_in_slots}
 
 -- where each frame has a slot, cues in slots are the cues

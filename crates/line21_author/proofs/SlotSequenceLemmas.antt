@@ -9,9 +9,9 @@ use Rattle.cue_lists.specs.Cells.{have_shared_cell}
 use Rattle.cue_lists.specs.Rules.Lane.{is_pop}
 use Rattle.cue_lists.specs.Rules.Sentences.{AreInSequence, ComesAfter, IsOnSlots, IsSound}
 use Rattle.cue_lists.specs.declared.cue.Cue.{Cue}
-use Rattle.line21_slots.specs.Cadences.{has_slot_in, slot_from, step_of}
-use Rattle.line21_slots.specs.declared.cadence.Cadence.{Cadence}
-use Rattle.line21_slots.proofs.CadenceLemmas.{slot_before, slots_apart, slots_ended, slots_rise}
+use Rattle.cue_lists.specs.Cadences.{has_slot_in, slot_from, step_of}
+use Rattle.cue_lists.specs.Cadence.{Cadence}
+use Rattle.cue_lists.proofs.CadenceLemmas.{slot_before, slots_apart, slots_ended, slots_rise}
 use Rattle.line21_author.specs.CueSlots.{cues_in_slots, timed_in_slots}
 
 -- a cue by itself, in a field of so many slots

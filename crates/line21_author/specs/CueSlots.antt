@@ -2,8 +2,8 @@
 -- Cues with their times in slots of their channel's field.
 use Rattle.std.specs.Prelude.{List, map}
 use Rattle.std.specs.Option.{option_map}
-use Rattle.line21_slots.specs.Cadences.{slot_from}
-use Rattle.line21_slots.specs.declared.cadence.Cadence.{Cadence}
+use Rattle.cue_lists.specs.Cadences.{slot_from}
+use Rattle.cue_lists.specs.Cadence.{Cadence}
 use Rattle.cue_lists.specs.declared.cue.Cue.{Cue}
 
 -- a cue with its LOAD, SHOW and HIDE in slots: each is the first slot that isn't before its frame

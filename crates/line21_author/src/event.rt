@@ -3,7 +3,7 @@ ghost use Rattle.line21_codes.specs.Writable.{IsWritableControl};
 ghost use Rattle.cue_lists.specs.Rules.Lane.{is_pop};
 ghost use Rattle.cue_lists.specs.Rules.Sentences.{AreInSequence, IsOnSlots};
 ghost use Rattle.std.specs.Option.{option_map};
-ghost use Rattle.line21_slots.specs.Cadences.{slot_from, step_of};
+ghost use Rattle.cue_lists.specs.Cadences.{slot_from, step_of};
 ghost use Rattle.line21_author.specs.CueSlots.{cues_in_slots, timed_in_slots};
 ghost use Rattle.line21_author.specs.Channels.{cues_on};
 ghost use Rattle.line21_author.specs.CueEvents.{control_event, show_events, hide_events, channel_events};
@@ -12,9 +12,8 @@ ghost use Rattle.line21_author.specs.EventPairs.{IsControlEvent};
 
 use crate::channel::{first_channel, write_in};
 use cue_lists::line21::is_on;
-use cue_lists::{Cue, Kind};
+use cue_lists::{Cadence, Cue, Kind};
 use line21_codes::{Chan, Control, FieldNumber, Pair};
-use line21_slots::Cadence;
 use std::alloc::{AllocError, Global};
 
 /// A control pair at a slot of its own, one that shows or erases captions: it is sent twice, in that slot of its field and in the

@@ -24,7 +24,7 @@ use Rattle.cue_lists.specs.declared.cue.Kind.TheVariants as kind
 use Rattle.line21_codes.specs.Channels.{field_of_channel}
 use Rattle.line21_codes.specs.NullPairs.{null_pair}
 use Rattle.frame_scheduler.specs.Channels.{cues_on, field_of_kind, is_on}
-use Rattle.line21_slots.specs.Cadences.{cadence_of, slot_in}
+use Rattle.cue_lists.specs.Cadences.{cadence_of, slot_in}
 use Rattle.frame_scheduler.specs.CueCodes.{cue_codes, opening_codes}
 use Rattle.frame_scheduler.specs.CueEvents.{channel_events, control_event, cue_events, hide_events, is_replaced_at, show_events}
 use Rattle.frame_scheduler.specs.CueUnits.{unit_of}

@@ -6,7 +6,7 @@ use Rattle.std.proofs.lemmas.Bool.Decides.{nat_tests}
 use Rattle.std.proofs.lemmas.List.{reverse-append, reverse-reverse}
 use Rattle.std.proofs.lemmas.List.Elements.{All-contains, All-contains_itself, All-from_recursion, All-head, All-tail, All-weaker, Contains-append_right, recursion_from_All}
 use Rattle.line21_codes.specs.declared.channels.Chan.{Chan}
-use Rattle.line21_slots.specs.Cadences.{slot_step}
+use Rattle.cue_lists.specs.Cadences.{slot_step}
 use Rattle.cue_lists.specs.AuthoredGrid.{Picture, authored_grid, blank, cell_in, cells_of, cells_of_cue, chain_of, chain_rows, shown_by, shown_from, shown_of_newest}
 use Rattle.cue_lists.specs.Hide.{hide_is}
 use Rattle.cue_lists.specs.Cues.{IsCueFormed, IsOfKind}
@@ -21,8 +21,7 @@ use Rattle.cue_lists.specs.declared.cue.Kind.{Kind}
 use Rattle.cue_lists.specs.declared.cue.Kind.TheVariants as kind
 use Rattle.cue_lists.specs.declared.cue.Run.{Run}
 use Rattle.frame_scheduler.specs.Channels.{cues_on, is_on}
-use Rattle.cue_lists.specs.Rules.Sentences.{AreInSequence}
-use Rattle.cue_lists.specs.Rules.Sentences.{IsSound}
+use Rattle.cue_lists.specs.Rules.Sentences.{AreInSequence, IsSound}
 use Rattle.cue_lists.proofs.ChannelCues.{cues_on_are_on, cues_on_formed, hides_unless_roll, line21_on}
 use Rattle.cue_lists.proofs.ChannelRules.{in_sequence_sound}
 use Rattle.line21_shown.specs.Sentences.{AuthoredGridIsSaid, HasCells, HasRows, IsUp}

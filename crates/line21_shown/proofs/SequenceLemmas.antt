@@ -21,7 +21,7 @@ use Rattle.cue_lists.specs.declared.cue.Cue.{Cue}
 use Rattle.cue_lists.specs.declared.lane.Lane.TheVariants.{Channel}
 use Rattle.line21_codes.specs.Channels.{field_of_channel}
 use Rattle.frame_scheduler.specs.Channels.{cues_on}
-use Rattle.line21_slots.specs.Cadences.{cadence_of, slot_from}
+use Rattle.cue_lists.specs.Cadences.{cadence_of, slot_from}
 use Rattle.frame_scheduler.specs.CueEvents.{channel_events, hide_events}
 use Rattle.frame_scheduler.proofs.SlotSequenceLemmas.{AreInSlots, in_sequence}
 use Rattle.line21_screen.specs.Channels.{ChannelState}

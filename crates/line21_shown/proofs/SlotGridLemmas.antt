@@ -20,10 +20,10 @@ use Rattle.cue_lists.specs.declared.cue.Kind.{Kind}
 use Rattle.cue_lists.specs.declared.cue.Kind.TheVariants as kind
 use Rattle.cue_lists.proofs.ChannelCues.{All-reverse}
 use Rattle.cue_lists.proofs.LaneCues.{reverse-cons}
-use Rattle.line21_slots.specs.Cadences.{has_slot_in, slot_frame, slot_from}
+use Rattle.cue_lists.specs.Cadences.{has_slot_in, slot_frame, slot_from}
 use Rattle.frame_scheduler.specs.CueSlots.{cues_in_slots, timed_in_slots}
-use Rattle.line21_slots.specs.declared.cadence.Cadence.{Cadence}
-use Rattle.line21_slots.proofs.CadenceLemmas.{frame_not_before, own_frame, slots_rise}
+use Rattle.cue_lists.specs.Cadence.{Cadence}
+use Rattle.cue_lists.proofs.CadenceLemmas.{frame_not_before, own_frame, slots_rise}
 use Rattle.frame_scheduler.proofs.CueSlotLemmas.{cues_on_slots}
 
 -- the cues of a chain in slots

@@ -9,9 +9,9 @@ use Rattle.cc_base.specs.declared.rate.Rate.{Rate}
 use Rattle.line21_codes.specs.declared.channels.Chan.{Chan}
 use Rattle.line21_codes.specs.declared.channels.Chan.TheVariants.{Cc1, Cc3}
 use Rattle.line21_codes.specs.declared.pairs.Pair.{Pair}
-use Rattle.line21_slots.specs.Cadences.{cadence_of, has_slot_in, slot_from}
-use Rattle.line21_slots.specs.declared.cadence.Cadence.{Cadence}
-use Rattle.line21_slots.proofs.CadenceLemmas.{slot_before, slots_rise}
+use Rattle.cue_lists.specs.Cadences.{cadence_of, has_slot_in, slot_from}
+use Rattle.cue_lists.specs.Cadence.{Cadence}
+use Rattle.cue_lists.proofs.CadenceLemmas.{slot_before, slots_rise}
 use Rattle.cue_lists.specs.Channels.{cues_on, is_on}
 use Rattle.cue_lists.specs.Listing.{IsFormed, Listing}
 use Rattle.cue_lists.specs.Rules.{IsRuled}

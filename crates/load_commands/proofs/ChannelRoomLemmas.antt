@@ -7,7 +7,7 @@ use Rattle.std.proofs.lemmas.List.{length-map}
 use Rattle.line21_codes.specs.declared.channels.FieldNumber.{FieldNumber}
 use Rattle.line21_codes.specs.Channels.{field_of_channel}
 use Rattle.line21_codes.specs.declared.channels.Chan.{Chan}
-use Rattle.line21_slots.specs.declared.cadence.Cadence.TheVariants.{EveryFrame}
+use Rattle.cue_lists.specs.Cadence.TheVariants.{EveryFrame}
 use Rattle.line21_author.specs.Channels.{cues_on, is_on}
 use Rattle.line21_author.specs.CueEvents.{channel_events, cue_events, hide_events, is_replaced_at, show_events}
 use Rattle.line21_author.specs.CueSlots.{timed_in_slots}

@@ -5,7 +5,7 @@ use Rattle.std.proofs.lemmas.List.Elements.{All-cons, All-from_recursion, All-ni
 use Rattle.cc_base.specs.declared.rate.Rate.TheVariants.{F2997}
 use Rattle.line21_codes.specs.declared.channels.Chan.{Chan}
 use Rattle.line21_codes.specs.declared.channels.Chan.TheVariants.{Cc1, Cc2, Cc3, Cc4}
-use Rattle.line21_slots.specs.declared.cadence.Cadence.TheVariants.{EveryFrame}
+use Rattle.cue_lists.specs.Cadence.TheVariants.{EveryFrame}
 use Rattle.cue_types.specs.Channels.{cues_of_service, cues_on, is_of_service, is_on}
 use Rattle.cue_types.specs.declared.cue.Cue.{Cue}
 use Rattle.cue_lists.specs.Rules.{IsRuled}

@@ -22,9 +22,9 @@ use Rattle.cue_lists.proofs.RulesSaid.{lanes_ruled}
 use Rattle.cue_lists.specs.Rules.Sentences.{AreInSequence, IsOnSlots}
 use Rattle.cue_lists.specs.declared.cue.Cue.{Cue}
 use Rattle.cue_lists.specs.declared.lane.Lane.TheVariants.{Channel}
-use Rattle.line21_slots.specs.Cadences.{cadence_of, slot_from}
-use Rattle.line21_slots.specs.declared.cadence.Cadence.{Cadence}
-use Rattle.line21_slots.proofs.CadenceLemmas.{slots_rise}
+use Rattle.cue_lists.specs.Cadences.{cadence_of, slot_from}
+use Rattle.cue_lists.specs.Cadence.{Cadence}
+use Rattle.cue_lists.proofs.CadenceLemmas.{slots_rise}
 use Rattle.line21_author.specs.CueEvents.{channel_events}
 use Rattle.line21_author.specs.CueSlots.{cues_in_slots, timed_in_slots}
 use Rattle.line21_author.proofs.CueSlotLemmas.{cues_on_slots}

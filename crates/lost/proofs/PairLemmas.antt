@@ -20,7 +20,7 @@ use Rattle.line21_codes.specs.Writing.{pair_of_code}
 use Rattle.line21_codes.proofs.CodeLemmas.{written-odd}
 use Rattle.cue_lists.specs.Listing.{IsFormed, Listing}
 use Rattle.cue_lists.specs.declared.lane.Lane.TheVariants.{Channel}
-use Rattle.line21_slots.specs.Cadences.{cadence_of, slot_in}
+use Rattle.cue_lists.specs.Cadences.{cadence_of, slot_in}
 use Rattle.cdp_packets.specs.Packets.{Frame}
 use Rattle.cdp_packets.specs.PacketTriplets.{packet_triplets}
 use Rattle.words_files.specs.Received.{field_pairs, received_pairs}

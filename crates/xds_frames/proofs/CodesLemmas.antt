@@ -13,7 +13,7 @@ use Rattle.line21_codes.specs.declared.channels.Chan.TheVariants.{Cc3}
 use Rattle.line21_codes.specs.declared.channels.FieldNumber.TheVariants.{Two}
 use Rattle.line21_codes.specs.declared.codes.Code.{Code}
 use Rattle.line21_codes.specs.declared.pairs.Pair.{Pair}
-use Rattle.line21_slots.specs.Cadences.{cadence_of, slot_in}
+use Rattle.cue_lists.specs.Cadences.{cadence_of, slot_in}
 use Rattle.xds_frames.specs.FreeSlots.{frame_of_slot, free_in}
 use Rattle.xds_frames.specs.PacketColumns.{packet_columns}
 use Rattle.xds_frames.specs.XdsFrames.{HasXdsRoom, xds_columns}

@@ -16,9 +16,9 @@ use Rattle.line21_codes.specs.Reading.{code_of}
 use Rattle.line21_codes.specs.declared.channels.Chan.TheVariants.{Cc3}
 use Rattle.line21_codes.specs.declared.channels.DataChannel.TheVariants.{One}
 use Rattle.line21_codes.specs.declared.pairs.Pair.{Pair}
-use Rattle.line21_slots.specs.Cadences.{cadence_of, slot_frame, slot_from}
-use Rattle.line21_slots.specs.declared.cadence.Cadence.{Cadence}
-use Rattle.line21_slots.proofs.CadenceLemmas.{frame_not_before, slot_not_before}
+use Rattle.cue_lists.specs.Cadences.{cadence_of, slot_frame, slot_from}
+use Rattle.cue_lists.specs.Cadence.{Cadence}
+use Rattle.cue_lists.proofs.CadenceLemmas.{frame_not_before, slot_not_before}
 use Rattle.lanes.specs.declared.chunk.FieldChunk.{FieldChunk}
 use Rattle.lanes.specs.ChannelLane.{channel_chunks, field_cue_chunks}
 use Rattle.lanes.specs.FieldLane.{IsAllowedInField, end_of, field_lane}

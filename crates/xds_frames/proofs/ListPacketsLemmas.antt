@@ -9,7 +9,7 @@ use Rattle.cue_lists.specs.Rules.Sentences.{AreInSequence}
 use Rattle.cue_lists.specs.declared.cue.Cue.{Cue}
 use Rattle.frame_carrier.specs.SlotLists.{slots_in_list}
 use Rattle.line21_codes.specs.declared.channels.Chan.TheVariants.{Cc3}
-use Rattle.line21_slots.specs.Cadences.{slot_frame}
+use Rattle.cue_lists.specs.Cadences.{slot_frame}
 use Rattle.xds_frames.specs.ListPackets.{PacketsAreLaid, RoomIsJudged, RoomIsTold, laying_of}
 use Rattle.xds_frames.specs.Loads.{AreInOrder, AreLoadedInOrder, span_of}
 use Rattle.xds_frames.specs.Packets.{free_at}

@@ -6,10 +6,10 @@ use Rattle.line21_codes.specs.Writing.{pair_of_code}
 use Rattle.line21_codes.specs.declared.channels.FieldNumber.TheVariants.{Two}
 use Rattle.line21_codes.specs.declared.codes.Code.{Code}
 use Rattle.line21_codes.specs.declared.pairs.Pair.{Pair}
-use Rattle.line21_slots.proofs.CadenceLemmas.{own_frame, slot_more, slot_no_more}
-use Rattle.line21_slots.specs.Cadences.{has_slot_in, slot_frame, slot_from, slot_in}
-use Rattle.line21_slots.specs.declared.cadence.Cadence.{Cadence}
-use Rattle.line21_slots.specs.declared.cadence.Cadence.TheVariants.{EveryFrame, EvenFrames, OddFrames}
+use Rattle.cue_lists.proofs.CadenceLemmas.{own_frame, slot_more, slot_no_more}
+use Rattle.cue_lists.specs.Cadences.{has_slot_in, slot_frame, slot_from, slot_in}
+use Rattle.cue_lists.specs.Cadence.{Cadence}
+use Rattle.cue_lists.specs.Cadence.TheVariants.{EveryFrame, EvenFrames, OddFrames}
 use Rattle.frame_carrier.specs.Columns.{Columns}
 use Rattle.frame_carrier.specs.FrameBytes.{FrameBytes}
 use Rattle.xds_frames.specs.Loads.{StandsAt}

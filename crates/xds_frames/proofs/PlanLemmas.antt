@@ -6,7 +6,7 @@ use Rattle.frame_carrier.specs.Columns.{Columns}
 use Rattle.frame_carrier.specs.Frames.{GivesFrom, frames_left}
 use Rattle.frame_carrier.specs.Planned.{IsListPlaced, Placement, columns_of}
 use Rattle.frame_carrier.specs.Plan.{Plan}
-use Rattle.line21_slots.specs.Cadences.{slot_frame, slot_from}
+use Rattle.cue_lists.specs.Cadences.{slot_frame, slot_from}
 use Rattle.xds_frames.specs.XdsFrames.{HasXdsRoom}
 use Rattle.xds_frames.proofs.ListPacketsLemmas.{packets_laid, room_told}
 use Rattle.xds_frames.specs.ListPackets.{TellsXdsRoom, laying_of}

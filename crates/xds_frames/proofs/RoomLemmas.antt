@@ -2,7 +2,7 @@
 use Rattle.std.proofs.Common.{◌≡◌, ◌∙◌, ℕ, ◌+◌, Option, option_map, sym, ap, subst, arith}
 use Rattle.frame_carrier.specs.Columns.{Columns}
 use Rattle.frame_carrier.specs.FrameBytes.{FrameBytes}
-use Rattle.line21_slots.specs.Cadences.{slot_frame, slot_from, slot_in}
+use Rattle.cue_lists.specs.Cadences.{slot_frame, slot_from, slot_in}
 use Rattle.std.specs.Prelude.{length}
 use Rattle.xds_frames.specs.Packets.{HasPairs, IsLaying, Laying, free_at}
 use Rattle.xds_frames.specs.declared.packets.Packets.{Packets}

@@ -23,7 +23,7 @@ use Rattle.line21_codes.specs.declared.pairs.Pair.{Pair}
 use Rattle.line21_screen.specs.Channels.{ChannelState, new_channel}
 use Rattle.line21_screen.specs.Fields.{FieldState, channel}
 use Rattle.line21_screen.specs.Meaning.{after}
-use Rattle.line21_slots.specs.Cadences.{cadence_of, slot_from, slot_in}
+use Rattle.cue_lists.specs.Cadences.{cadence_of, slot_from, slot_in}
 use Rattle.dual_fields.proofs.CaptionedLemmas.{AreBytes, channel_captioned, frame_bytes}
 use Rattle.dual_fields.proofs.ReadingLemmas.{columns_read}
 use Rattle.dual_fields.proofs.SequenceLemmas.{newest_pairs}

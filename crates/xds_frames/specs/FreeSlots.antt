@@ -10,7 +10,7 @@ use Rattle.line21_author.specs.CueEvents.{channel_events}
 use Rattle.line21_codes.specs.NullPairs.{is_null}
 use Rattle.line21_codes.specs.declared.channels.Chan.{Chan}
 use Rattle.line21_codes.specs.declared.channels.Chan.TheVariants.{Cc3}
-use Rattle.line21_slots.specs.Cadences.{cadence_of, slot_frame}
+use Rattle.cue_lists.specs.Cadences.{cadence_of, slot_frame}
 use Rattle.lanes.specs.ChannelLane.{IsChannelPlaced, channel_chunks, channel_slot}
 use Rattle.lanes.specs.LaneTimeline.{lane_timeline}
 use Rattle.frame_carrier.specs.SlotLists.{slot_cues}

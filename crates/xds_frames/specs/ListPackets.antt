@@ -4,7 +4,7 @@ use Rattle.std.specs.Prelude.{◌≡◌, ℕ, List, Option, Some, None}
 use Rattle.cue_lists.specs.Listing.{Listing}
 use Rattle.cue_lists.specs.declared.lane.Lane.TheVariants.{Channel}
 use Rattle.line21_codes.specs.declared.channels.Chan.TheVariants.{Cc3}
-use Rattle.line21_slots.specs.Cadences.{cadence_of, slot_frame}
+use Rattle.cue_lists.specs.Cadences.{cadence_of, slot_frame}
 use Rattle.lanes.specs.ChannelLane.{channel_slot}
 use Rattle.frame_carrier.specs.Planned.{Placement, columns_of}
 use Rattle.frame_carrier.specs.SlotLists.{slot_cues, slots_in_list}

@@ -8,8 +8,8 @@ use Rattle.cue_lists.specs.declared.cue.Cue.{Cue}
 use Rattle.line21_codes.specs.NullPairs.{is_null}
 use Rattle.line21_codes.specs.declared.channels.Chan.TheVariants.{Cc3}
 use Rattle.line21_codes.specs.declared.pairs.Pair.{Pair}
-use Rattle.line21_slots.specs.Cadences.{slot_frame, slot_from, slot_in}
-use Rattle.line21_slots.specs.declared.cadence.Cadence.{Cadence}
+use Rattle.cue_lists.specs.Cadences.{slot_frame, slot_from, slot_in}
+use Rattle.cue_lists.specs.Cadence.{Cadence}
 use Rattle.frame_carrier.specs.Columns.{Columns}
 use Rattle.frame_carrier.specs.FrameBytes.{FrameBytes}
 use Rattle.xds_frames.specs.FreeSlots.{is_loading}

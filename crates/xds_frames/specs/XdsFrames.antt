@@ -10,7 +10,7 @@ use Rattle.line21_codes.specs.declared.channels.Chan.{Chan}
 use Rattle.line21_codes.specs.declared.channels.Chan.TheVariants.{Cc3}
 use Rattle.line21_codes.specs.declared.channels.FieldNumber.TheVariants.{Two}
 use Rattle.line21_codes.specs.declared.pairs.Pair.{Pair}
-use Rattle.line21_slots.specs.Cadences.{cadence_of, slot_in}
+use Rattle.cue_lists.specs.Cadences.{cadence_of, slot_in}
 use Rattle.lanes.specs.ChannelLane.{channel_slot}
 use Rattle.frame_carrier.specs.Columns.{Columns, first_pairs}
 use Rattle.frame_carrier.specs.Planned.{IsListPlaced, Placement, columns_of}

@@ -3,7 +3,7 @@ ghost use Rattle.std.specs.Prelude.{◌≡◌, ◌≤◌, ◌<◌, ◌+◌, ◌^
 ghost use Rattle.line21_codes.specs.NullPairs.{is_null};
 ghost use Rattle.line21_codes.specs.Writing.{pair_of_code};
 ghost use Rattle.line21_codes.specs.declared.channels.FieldNumber.TheVariants.{Two};
-ghost use Rattle.line21_slots.specs.Cadences.{slot_in};
+ghost use Rattle.cue_lists.specs.Cadences.{slot_in};
 ghost use Rattle.cue_lists.specs.declared.cue.Cue.{Cue};
 ghost use Rattle.xds_frames.specs.Loads.{StandsAt};
 ghost use Rattle.xds_frames.specs.Packets.{IsLaying, Laying, frame_next, is_free, laid_frame, loads_in, writer_in};

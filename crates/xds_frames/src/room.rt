@@ -1,6 +1,6 @@
 ghost use Rattle.std.specs.Prelude.{◌≡◌, ◌≤◌, ◌-◌, ◌^◌};
 ghost use Rattle.frame_carrier.specs.Columns.{Columns};
-ghost use Rattle.line21_slots.specs.Cadences.{slot_frame, slot_from};
+ghost use Rattle.cue_lists.specs.Cadences.{slot_frame, slot_from};
 ghost use Rattle.xds_frames.specs.Packets.{HasPairs, IsLaying, Laying, frames_last, free_at};
 ghost use Rattle.xds_packets.specs.Places.{LacksRoom};
 

@@ -1,5 +1,5 @@
 use Rattle.std.proofs.Common.{subst, sym}
-use Rattle.line21_slots.specs.Cadences.{slot_frame}
+use Rattle.cue_lists.specs.Cadences.{slot_frame}
 use Rattle.xds_frames.proofs.ListPacketsLemmas.{loaded_in_order}
 use Rattle.xds_frames.proofs.PacketsLemmas.{lays_anew}
 use Rattle.xds_frames.specs.ListPackets.{laying_of}

@@ -1,5 +1,5 @@
 use Rattle.std.proofs.Common.{arith}
-use Rattle.line21_slots.specs.Cadences.{slot_frame, slot_from}
+use Rattle.cue_lists.specs.Cadences.{slot_frame, slot_from}
 use Rattle.xds_frames.specs.Packets.{free_at}
 use Rattle.xds_frames.proofs.RoomLemmas.{way_begun, way_ended, way_on}
 use Rattle.xds_frames.proofs.room.first_without_room.Goals as goal

@@ -1,6 +1,6 @@
 use Rattle.std.proofs.Common.{◌+◌, ◌∙◌, Option, ap, arith, refl, sym}
 use Rattle.line21_codes.specs.declared.pairs.Pair.{Pair}
-use Rattle.line21_slots.specs.Cadences.{slot_frame}
+use Rattle.cue_lists.specs.Cadences.{slot_frame}
 use Rattle.xds_frames.specs.Packets.{free_at}
 use Rattle.xds_frames.proofs.LoadsLemmas.{stands_later}
 use Rattle.xds_frames.proofs.PacketsLemmas.{lays_at, lays_slot, passes_on}
