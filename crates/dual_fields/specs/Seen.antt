@@ -1,4 +1,4 @@
--- Believed: the program's answer stands on these definitions.
+-- Believed in part: the program's answer stands on some of these definitions.
 -- What a viewer sees of a field that two cue lists share: the second list's codes are those of data channel 2.
 use Rattle.std.specs.Prelude.{ℕ, true, List, Option, map, option_map}
 use Rattle.line21_codes.specs.declared.channels.Chan.{Chan}
@@ -44,12 +44,12 @@ second_part in_field part = record {
 abbrev pub second_parts : FieldNumber → List Part → List Part
 second_parts in_field parts = map (second_part in_field) parts
 
--- the events of the first list's channel, and those of the second's
+-- the events of the first list's channel, and those of the second's, with the codes of data channel 2
 abbrev pub first_events : Chan → List Cue → Timeline
 first_events of_list cues = event_at (channel_events of_list cues)
 
 abbrev pub second_events : Chan → List Cue → Timeline
-second_events of_list cues = second_timeline (field_of_channel of_list) (event_at (channel_events of_list cues))
+second_events of_list cues n = option_map (second_unit (field_of_channel of_list)) (first_events of_list cues n)
 
 -- the field's timeline
 abbrev pub field_timeline : Chan → List Cue → List Cue → List ℕ → List ℕ → List (Option ℕ) → List (Option ℕ) → Timeline

@@ -1,6 +1,6 @@
 -- Believed in part: the program's answer stands on some of these definitions.
 -- Two lists that go together, and where their units stand in the field of a channel.
-use Rattle.std.specs.Prelude.{ℕ, List}
+use Rattle.std.specs.Prelude.{ℕ, List, map}
 use Rattle.line21_codes.specs.declared.channels.Chan.{Chan}
 use Rattle.line21_codes.specs.declared.channels.FieldNumber.{FieldNumber}
 use Rattle.line21_codes.specs.Channels.{field_of_channel}
@@ -17,15 +17,15 @@ use Rattle.dual_fields.specs.Spans.{in_spans}
 use Rattle.dual_fields.specs.declared.part.Part.{Part}
 use Rattle.dual_fields.specs.ChannelParts.{channel_parts}
 use Rattle.dual_fields.specs.Dual.{IsDual, Places}
-use Rattle.dual_fields.specs.Seen.{first_events, second_events, second_parts}
+use Rattle.dual_fields.specs.Seen.{first_events, second_events, second_part}
 use Rattle.dual_plans.specs.OtherList.{AreAlike}
 
--- the units of the first list in the field of a channel, and those of the second
+-- the units of the first list in the field of a channel, and those of the second, with the codes of data channel 2
 abbrev pub first_units : Listing → Chan → List Part
 first_units list channel = channel_parts channel (slot_cues list channel)
 
 abbrev pub second_units : Listing → Chan → List Part
-second_units list channel = second_parts (field_of_channel channel) (channel_parts channel (slot_cues list channel))
+second_units list channel = map (second_part (field_of_channel channel)) (first_units list channel)
 
 -- the slots for the units of the first list, and for those of the second beside the first list's in these slots
 abbrev pub slots_for_first : Listing → Listing → Chan → Slots
