@@ -10,7 +10,7 @@ use Rattle.convert_commands.specs.ConvertVerdict.{ConvertVerdict}
 use Rattle.cue_list_commands.specs.Accepted.{IsGoodList}
 use Rattle.cue_list_commands.specs.ListVerdict.{BuildVerdict, CuesVerdict, PairsVerdict}
 use Rattle.cue_list_commands.specs.Output.{IsPlacedAs}
-use Rattle.dual_commands.specs.DualVerdict.{DualVerdict, IsSecond}
+use Rattle.dual_commands.specs.DualVerdict.{DualVerdict}
 use Rattle.fit_commands.specs.FitVerdict.{FitVerdict}
 use Rattle.help_commands.specs.Pages.{page_text}
 use Rattle.help_commands.specs.TextVerdict.{TextVerdict}
@@ -26,7 +26,8 @@ use Rattle.words_commands.specs.ConcealedScreens.{concealed_changes}
 use Rattle.words_commands.specs.PacketLines.{packet_lines}
 use Rattle.words_commands.specs.Screens.{changes_of}
 use Rattle.words_commands.specs.Verdicts.{ChangesVerdict, ShowVerdict}
-use Rattle.xds_commands.specs.XdsVerdict.{AreItsPackets, XdsVerdict}
+use Rattle.xds_commands.specs.PacketLists.{IsGoodPackets}
+use Rattle.xds_commands.specs.XdsVerdict.{XdsVerdict}
 use Rattle.ccsuite_cli.specs.Command.{has_side_file}
 use Rattle.ccsuite_cli.specs.declared.command.Command.{Command}
 use Rattle.ccsuite_cli.specs.declared.command.Command.TheVariants.{Build, Conceal, Convert, Cues, Decode, Dual, Export, ExportMcc, Fit, Help, Import, ImportMcc, Insert, Load, Pairs, Show, Verify, Version, Xds, XdsShow}
@@ -80,8 +81,8 @@ IsUntouched (Some Build) side old new answer = ⊤
 IsUntouched (Some Cues) side old new answer = ⊤
 IsUntouched (Some Import) side old new answer = ⊤
 IsUntouched (Some (Fit late)) side old new answer = ⊤
-IsUntouched (Some Dual) side old new answer = AwaitsSide IsSecond side old new
-IsUntouched (Some Xds) side old new answer = AwaitsSide AreItsPackets side old new
+IsUntouched (Some Dual) side old new answer = AwaitsSide IsGoodList side old new
+IsUntouched (Some Xds) side old new answer = AwaitsSide IsGoodPackets side old new
 IsUntouched (Some Verify) side old new answer = LeavesAll old new answer × AwaitsSide IsGoodList side old new
 IsUntouched (Some Insert) side old new answer = LeavesAll old new answer × AwaitsSide IsPlacedAs side old new
 IsUntouched (Some (Load count)) side old new answer = LeavesAll old new answer × (new.left ≡ old.left)

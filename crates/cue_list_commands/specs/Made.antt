@@ -10,8 +10,3 @@ pub record IsProgrammeOf {A F : Type 0} (IsAccepted : List ℕ → A → Type 0)
   pub made : A
   pub accepted : IsAccepted bytes made
   pub framing : HasFraming left Gives (framing_of made) programme
-
--- and what is put of it is sound
-pub record IsMadeOf {A F : Type 0} (IsAccepted : List ℕ → A → Type 0) (framing_of : A → Framing) (IsSound : A → Type 0) (left : F → ℕ) (Gives : Columns → ℕ → F → Type 0) (bytes : List ℕ) (programme : Programme F) : Type 0 where
-  pub is : IsProgrammeOf IsAccepted framing_of left Gives bytes programme
-  pub sound : IsSound is.made

@@ -7,39 +7,11 @@ ghost use Rattle.cue_list_commands.specs.Output.{lines_of};
 
 use crate::accept::read_programme;
 use crate::lines::line_of;
-use crate::{Makes, run_made};
 use cc_base::{Put, Sink, Source};
 use command_base::Status;
-use frame_carrier::{Frames, Output, Plan, Programme};
+use frame_carrier::{Frames, Programme};
 use std::alloc::Global;
 use text_output::Gathered;
-
-/// `pairs`: the pairs of a cue list, a line a frame.
-#[derive(Drop)]
-struct Pairs;
-
-impl Makes for Pairs {
-    ghost use Rattle.cue_list_commands.specs.Accepted.{IsRefused};
-    ghost use Rattle.cue_list_commands.specs.Output.{IsPlacedAs, IsSoundPairs, PlacedList, framing_of};
-
-    type Made = Plan;
-
-    type Puts = Lines;
-
-    ghost Accepted = { PlacedList };
-
-    ghost IsAccepted = { λ _. IsPlacedAs };
-
-    ghost framing_of = { framing_of };
-
-    ghost IsSound = { IsSoundPairs };
-
-    ghost Refused = { λ _. IsRefused };
-
-    fn read<M: Source>(self, alloc: Global, input: &mut M) -> Result<Programme<Plan>, Status> {
-        read_programme(alloc, input)
-    }
-}
 
 /// Reads a cue list, and puts one line a frame with the pairs of both fields.
 pub fn run_pairs<M: Source, O: Sink>(alloc: Global, input: &mut M, out: &mut O) -> Status
@@ -48,21 +20,16 @@ pub fn run_pairs<M: Source, O: Sink>(alloc: Global, input: &mut M, out: &mut O) 
         (ends (M.left input.new) (M.faults input.new) (O.written out.new)
         (O.faults out.new)) result }
 {
-    run_made(Pairs, alloc, input, out)
-}
-
-/// The lines of a programme: the pairs of both fields, frame by frame.
-struct Lines;
-
-impl Output for Lines {
-    ghost bytes_of = { lines_of };
-
-    fn put<F: Frames + Drop, O: Sink>(programme: Programme<F>, out: &mut O) -> Put {
-        put_lines(programme, out)
+    match read_programme(alloc, input) {
+        Ok(programme) => match put_lines(programme, out) {
+            Put::Done => Status::Ok,
+            Put::Failed => Status::WriteFault,
+        },
+        Err(status) => status,
     }
 }
 
-/// Puts the lines of a programme's frames.
+/// Puts the lines of a programme: the pairs of both fields, frame by frame.
 fn put_lines<F: Frames + Drop, O: Sink>(programme: Programme<F>, out: &mut O) -> Put
     ensures bytes { (framing : Framing) → HasFraming F.left F.Gives framing programme
         → Puts (O.written out.old) (O.written out.new) result (lines_of framing) }

@@ -5,30 +5,18 @@ use Rattle.command_base.specs.WholeInput.{ReadsInput}
 use Rattle.command_base.specs.declared.status.Status.{Status}
 use Rattle.command_base.specs.declared.status.Status.TheVariants as status
 use Rattle.cue_list_commands.specs.Accepted.{IsGoodList, IsRefusedList}
-use Rattle.cue_lists.proofs.RulesDecided.{ruled_or_broken}
 use Rattle.cue_lists.specs.Listing.{Listing}
-use Rattle.cue_lists.specs.Rules.{HasFault, IsRuled}
-use Rattle.cue_lists.specs.declared.rules.RuleFault.{RuleFault}
 use Rattle.dual_commands.specs.DualLists.{IsPlacedBeside, IsRefusedBeside, IsRefusedPair}
 use Rattle.dual_commands.specs.DualStatus.{fault_status}
-use Rattle.dual_commands.specs.DualWords.{IsSoundDual, dual_framing}
-use Rattle.dual_commands.proofs.SoundLemmas.{sound_placed}
+use Rattle.dual_commands.specs.DualWords.{dual_framing}
 use Rattle.dual_plans.specs.DualAnswer.{IsDualFault}
 use Rattle.dual_plans.specs.DualPlacement.{DualPlacement, IsDualPlaced, dual_columns}
 use Rattle.dual_plans.specs.FieldPlaces.{GoTogether}
 use Rattle.dual_plans.specs.declared.fault.DualFault.{DualFault}
 use Rattle.dual_plans.specs.declared.fault.DualFault.TheVariants.{Memory, OtherList, FieldClash, NoRoom, NoRoomBeside}
 use Rattle.cue_list_commands.specs.Columns.{Columns}
-use Rattle.cue_list_commands.specs.Made.{IsMadeOf}
+use Rattle.cue_list_commands.specs.Made.{IsProgrammeOf}
 use Rattle.cue_list_commands.specs.Programme.{Programme}
-
--- a list that breaks no rule keeps them
-pub unbroken_ruled : (list : Listing) → ((fault : RuleFault) → HasFault list fault → ⊥) → IsRuled list
-unbroken_ruled list unbroken =
-    elim (ruled_or_broken list) [
-      | inl ruled ↦ ruled
-      | inr broken ↦ absurd (unbroken broken.0 broken.1)
-    ]
 
 -- a fact of what was left that follows from another
 if_left : (P Q : List ℕ → Type 0) (left : Option (List ℕ)) → ((bytes : List ℕ) → P bytes → Q bytes) → IfSome left P → IfSome left Q
@@ -51,18 +39,15 @@ module _ (one two : Listing) (old new : Option (List ℕ)) (before now : ℕ) (r
   pub pair_made : {F : Type 0} (left : F → ℕ) (Gives : Columns → ℕ → F → Type 0) (placed : DualPlacement) (programme : Programme F)
       → GoTogether one two → IsDualPlaced one two placed → programme.rate ≡ one.rate → Gives (dual_columns one two placed) 0 programme.frames
       → left programme.frames ≡ one.frames
-      → ReadsInput (IsMadeOf (IsPlacedBeside two) dual_framing IsSoundDual left Gives) (IsRefusedBeside two) old new before now (Ok programme)
+      → ReadsInput (IsProgrammeOf (IsPlacedBeside two) dual_framing left Gives) (IsRefusedBeside two) old new before now (Ok programme)
   pair_made left Gives placed programme together is rate gives count = (
     read.0,
     read.1,
-    if_left (λ bytes. IsGoodList bytes one) (λ bytes. IsMadeOf (IsPlacedBeside two) dual_framing IsSoundDual left Gives bytes programme) old
+    if_left (λ bytes. IsGoodList bytes one) (λ bytes. IsProgrammeOf (IsPlacedBeside two) dual_framing left Gives bytes programme) old
         (λ bytes good. record {
-          is = record {
-            made = record { one = one; two = two; placed = placed };
-            accepted = record { good = good; second_is = refl; together = together; placement = is };
-            framing = record { rate_is = rate; gives = gives; count_is = count };
-          };
-          sound = sound_placed one two placed together is;
+          made = record { one = one; two = two; placed = placed };
+          accepted = record { good = good; second_is = refl; together = together; placement = is };
+          framing = record { rate_is = rate; gives = gives; count_is = count };
         })
         read.2,
   )

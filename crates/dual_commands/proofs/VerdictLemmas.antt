@@ -2,17 +2,16 @@
 use Rattle.std.proofs.Common.{ℕ, List, inl, inr, sym, subst}
 use Rattle.command_base.specs.declared.status.Status.{Status}
 use Rattle.command_base.specs.declared.status.Status.TheVariants as status
-use Rattle.cue_list_commands.specs.Accepted.{IsRefusedList}
+use Rattle.cue_list_commands.specs.Accepted.{IsGoodList, IsRefusedList}
 use Rattle.cue_list_commands.proofs.ListVerdictLemmas.{good_not_refused, good_once, list_refused_once}
 use Rattle.cue_lists.specs.Listing.{Listing}
 use Rattle.command_base.proofs.OneLemmas.{beside_one, made_one}
 use Rattle.command_base.specs.Exact.{IsOne}
 use Rattle.command_base.specs.MadeVerdict.{MadeVerdict}
 use Rattle.dual_commands.specs.DualLists.{IsPlacedBeside, IsRefusedBeside, IsRefusedPair}
-use Rattle.dual_commands.specs.DualVerdict.{DualVerdict, IsSecond}
+use Rattle.dual_commands.specs.DualVerdict.{DualVerdict}
 use Rattle.dual_commands.specs.Judged.{AcceptedIsNotRefused, RefusalIsOne}
 use Rattle.dual_commands.specs.DualWords.{IsSoundDual, dual_framing}
-use Rattle.dual_commands.specs.declared.dual_of.DualOf.{DualOf}
 use Rattle.dual_commands.proofs.PairLemmas.{pair_refused_once, placed_unrefused}
 use Rattle.cue_list_commands.specs.Framing.{words_of}
 
@@ -32,15 +31,12 @@ refused_once second bytes one other (inr first) (inr again) =
     let same = good_once bytes again.list first.list again.good first.good in
     pair_refused_once first.list second one other first.holds (subst (λ (l : Listing). IsRefusedPair l second other) same again.holds)
 
-abbrev OfSecond : Listing → List ℕ → Status → List ℕ → Type 0
+abbrev pub OfSecond : Listing → List ℕ → Status → List ℕ → Type 0
 OfSecond second = MadeVerdict (IsPlacedBeside second) (λ lists. words_of (dual_framing lists)) IsSoundDual (IsRefusedBeside second)
 
 pub dual_one : IsOne DualVerdict
 dual_one =
-    beside_one IsSecond IsRefusedList (λ (command : DualOf). OfSecond command.second) (λ aside command answer good refused. good_not_refused aside command.second answer good refused)
-    list_refused_once
-    (λ aside input command other answer text good fine made.
-    subst (λ (l : Listing). OfSecond l input answer text) (good_once aside other.second command.second fine good) made)
-    (λ command.
-    made_one (IsPlacedBeside command.second) (λ lists. words_of (dual_framing lists)) IsSoundDual (IsRefusedBeside command.second)
-    (accepted_not_refused command.second) (refused_once command.second))
+    beside_one IsGoodList IsRefusedList OfSecond good_not_refused list_refused_once
+    (λ aside input second other answer text good fine made. subst (λ (l : Listing). OfSecond l input answer text) (good_once aside other second fine good) made)
+    (λ second.
+    made_one (IsPlacedBeside second) (λ lists. words_of (dual_framing lists)) IsSoundDual (IsRefusedBeside second) (accepted_not_refused second) (refused_once second))

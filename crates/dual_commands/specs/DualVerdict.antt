@@ -6,15 +6,10 @@ use Rattle.command_base.specs.declared.status.Status.{Status}
 use Rattle.cue_list_commands.specs.Accepted.{IsGoodList, IsRefusedList}
 use Rattle.dual_commands.specs.DualLists.{IsPlacedBeside, IsRefusedBeside}
 use Rattle.dual_commands.specs.DualWords.{IsSoundDual, dual_framing}
-use Rattle.dual_commands.specs.declared.dual_of.DualOf.{DualOf}
 use Rattle.cue_list_commands.specs.Framing.{words_of}
-
--- the bytes are the command's second list, which keeps the rules
-abbrev pub IsSecond : List ℕ → DualOf → Type 0
-IsSecond bytes command = IsGoodList bytes command.second
 
 -- `dual`: the words of both lists
 abbrev pub DualVerdict : List ℕ → List ℕ → Status → List ℕ → Type 0
 DualVerdict =
-    BesideVerdict IsSecond IsRefusedList
-    (λ command. MadeVerdict (IsPlacedBeside command.second) (λ lists. words_of (dual_framing lists)) IsSoundDual (IsRefusedBeside command.second))
+    BesideVerdict IsGoodList IsRefusedList
+    (λ second. MadeVerdict (IsPlacedBeside second) (λ lists. words_of (dual_framing lists)) IsSoundDual (IsRefusedBeside second))

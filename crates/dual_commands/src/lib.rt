@@ -2,8 +2,6 @@
 #![tactic(auto)]
 
 pub use crate::dual::run_dual;
-pub use crate::dual_of::DualOf;
 
 mod dual;
-mod dual_of;
 pub mod laws;

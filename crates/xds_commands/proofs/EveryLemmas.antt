@@ -1,5 +1,5 @@
 -- Of every side file and every input `xds` makes one status.
-use Rattle.std.proofs.Common.{◌⊎◌, inl, inr, refl, subst, sym, All, ℕ, List, Option, Some, None}
+use Rattle.std.proofs.Common.{◌⊎◌, inl, inr, refl, ℕ, List, Option, Some, None}
 use Rattle.command_base.proofs.WholeInputLemmas.{AreRefusals}
 use Rattle.command_base.specs.declared.status.Status.{Status}
 use Rattle.command_base.specs.declared.status.Status.TheVariants as status
@@ -9,19 +9,16 @@ use Rattle.cue_list_commands.specs.Accepted.{IsAccepted, IsRefused}
 use Rattle.cue_lists.specs.Listing.{Listing}
 use Rattle.cue_list_commands.specs.Framing.{words_of}
 use Rattle.cue_list_commands.specs.Planned.{Placement}
-use Rattle.xds_commands.proofs.MadeLemmas.{listed_packets}
+use Rattle.xds_commands.proofs.MadeLemmas.{sound_xds}
 use Rattle.xds_commands.proofs.PacketListLemmas.{packet_refusals}
-use Rattle.xds_commands.proofs.SoundLemmas.{sound_made}
-use Rattle.xds_commands.specs.PacketLists.{IsRefusedPackets}
+use Rattle.xds_commands.proofs.VerdictLemmas.{OfPackets}
+use Rattle.xds_commands.specs.PacketLists.{IsGoodPackets, IsRefusedPackets}
 use Rattle.xds_commands.specs.PlacedPackets.{IsPlacedWith, IsXdsRefusal, PlacedPackets}
 use Rattle.xds_commands.specs.XdsWords.{IsSoundXds, xds_framing}
-use Rattle.xds_commands.specs.declared.xds_of.XdsOf.{XdsOf}
 use Rattle.xds_frames.proofs.ListPacketsLemmas.{room_judged}
 use Rattle.xds_frames.specs.ListPackets.{TellsXdsRoom}
-use Rattle.xds_lists.specs.Form.{IsListed}
 use Rattle.xds_packets.specs.Sending.{Listed}
-use Rattle.command_base.specs.MadeVerdict.{MadeVerdict}
-use Rattle.xds_commands.specs.XdsVerdict.{AreItsPackets, XdsVerdict}
+use Rattle.xds_commands.specs.XdsVerdict.{XdsVerdict}
 use Rattle.command_base.proofs.JudgedLemmas.{beside_made, judged_made}
 use Rattle.xds_commands.proofs.PacketJudgedLemmas.{packets_judged}
 use Rattle.command_base.specs.Exact.{HasVerdict}
@@ -57,17 +54,10 @@ xds_judged listed bytes = elim (every_list_judged bytes) [
   | inr (answer, refused) ↦ inr (answer, list_xds_refused listed bytes answer refused)
 ]
 
-sound_xds : (listed : List Listed) → All IsListed listed → (bytes : List ℕ) (made : PlacedPackets) → IsPlacedWith listed bytes made → IsSoundXds made
-sound_xds listed all bytes made is =
-    sound_made listed bytes made (listed_packets made.listed (subst (λ (l : List Listed). All IsListed l) (sym is.listed_are) all)) is
-
-abbrev OfPackets : List Listed → List ℕ → Status → List ℕ → Type 0
-OfPackets listed = MadeVerdict (IsPlacedWith listed) (λ made. words_of (xds_framing made)) IsSoundXds (IsXdsRefusal listed)
-
-xds_made : (aside : List ℕ) (command : XdsOf) → AreItsPackets aside command → HasVerdict (λ side. OfPackets command.packets)
-xds_made aside command is side input bytes =
-    judged_made (IsPlacedWith command.packets) (λ made. words_of (xds_framing made)) IsSoundXds (IsXdsRefusal command.packets) (xds_refusals command.packets)
-    (sound_xds command.packets is.spelled.in_range) input (xds_judged command.packets input)
+xds_made : (aside : List ℕ) (listed : List Listed) → IsGoodPackets aside listed → HasVerdict (λ side. OfPackets listed)
+xds_made aside listed is side input bytes =
+    judged_made (IsPlacedWith listed) (λ made. words_of (xds_framing made)) IsSoundXds (IsXdsRefusal listed) (xds_refusals listed)
+    (sound_xds listed is.spelled.in_range) input (xds_judged listed input)
 
 pub every_xds : HasVerdict XdsVerdict
-every_xds = beside_made AreItsPackets IsRefusedPackets (λ (command : XdsOf). OfPackets command.packets) packet_refusals xds_made packets_judged
+every_xds = beside_made IsGoodPackets IsRefusedPackets OfPackets packet_refusals xds_made packets_judged

@@ -9,14 +9,14 @@ use Rattle.cue_list_commands.specs.Accepted.{IsGoodList, IsRefusedList}
 use Rattle.cue_lists.specs.Listing.{Listing}
 use Rattle.cue_list_commands.specs.Columns.{Columns}
 use Rattle.cue_list_commands.specs.Planned.{IsListPlaced, Placement}
-use Rattle.cue_list_commands.specs.Made.{IsMadeOf}
+use Rattle.cue_list_commands.specs.Made.{IsProgrammeOf}
 use Rattle.cue_list_commands.specs.Programme.{Programme}
 use Rattle.xds_frames.proofs.CodesLemmas.{columns_given}
-use Rattle.xds_frames.specs.XdsFrames.{AreSendable, HasXdsRoom, xds_columns}
-use Rattle.xds_commands.specs.PlacedPackets.{IsPlacedWith, IsXdsRefusal}
+use Rattle.xds_frames.specs.XdsFrames.{HasXdsRoom, xds_columns}
+use Rattle.xds_commands.specs.PlacedPackets.{IsPlacedWith, IsXdsRefusal, PlacedPackets}
 use Rattle.xds_commands.specs.XdsStatus.{fault_status}
 use Rattle.xds_commands.specs.XdsWords.{IsSoundXds, xds_framing}
-use Rattle.xds_commands.proofs.SoundLemmas.{sound_placed}
+use Rattle.xds_commands.proofs.SoundLemmas.{sound_made}
 use Rattle.xds_frames.specs.PlanAnswer.{IsXdsPlanFault}
 use Rattle.xds_frames.specs.declared.fault.XdsPlanFault.{XdsPlanFault}
 use Rattle.xds_frames.specs.declared.fault.XdsPlanFault.TheVariants.{Memory, NoRoom, NoXdsRoom}
@@ -27,6 +27,11 @@ use Rattle.xds_packets.specs.Sending.{Listed}
 -- the packets of a list can be sent
 pub listed_packets : (listed : List Listed) → All IsListed listed → All (λ (l : Listed). IsXdsPacket l.packet) listed
 listed_packets listed all = All-weaker IsListed (λ (l : Listed). IsXdsPacket l.packet) (λ one is. is.packet) listed all
+
+-- so what `xds` puts of an accepted list with them is sound
+pub sound_xds : (listed : List Listed) → All IsListed listed → (bytes : List ℕ) (made : PlacedPackets) → IsPlacedWith listed bytes made → IsSoundXds made
+sound_xds listed all bytes made is =
+    sound_made listed bytes made (listed_packets made.listed (subst (λ (l : List Listed). All IsListed l) (sym is.listed_are) all)) is
 
 -- a fact of what was left that follows from another
 if_left : (P Q : List ℕ → Type 0) (left : Option (List ℕ)) → ((bytes : List ℕ) → P bytes → Q bytes) → IfSome left P → IfSome left Q
@@ -41,30 +46,24 @@ list_unread listed old new before now (status.NoXdsRoom packet) read =
     (read.0, if_left (λ bytes. ⊥) (λ bytes. IsXdsRefusal listed bytes (status.NoXdsRoom packet)) old (λ bytes wrong. absurd wrong) read.1)
 list_unread listed old new before now s read = read
 
-module _ (list : Listing) (listed : List Listed) (all : All IsListed listed) (old new : Option (List ℕ)) (before now : ℕ) (read : ReadsInput IsGoodList IsRefusedList old new before now (Ok list)) where
-  sendable : (bytes : List ℕ) (placed : Placement) → IsGoodList bytes list → IsListPlaced list placed → AreSendable list placed listed
-  sendable bytes placed good is = record { formed = good.spelled.formed; ruled = good.ruled; placed_is = is; packets = listed_packets listed all }
-
+module _ (list : Listing) (listed : List Listed) (old new : Option (List ℕ)) (before now : ℕ) (read : ReadsInput IsGoodList IsRefusedList old new before now (Ok list)) where
   -- a planned list with packets
   pub list_made : {F : Type 0} (left : F → ℕ) (Gives : Columns → ℕ → F → Type 0) (placed : Placement) (programme : Programme F)
       → IsListPlaced list placed → HasXdsRoom list placed listed → programme.rate ≡ list.rate → Gives (xds_columns list placed listed) 0 programme.frames
       → left programme.frames ≡ list.frames
-      → ReadsInput (IsMadeOf (IsPlacedWith listed) xds_framing IsSoundXds left Gives) (IsXdsRefusal listed) old new before now (Ok programme)
+      → ReadsInput (IsProgrammeOf (IsPlacedWith listed) xds_framing left Gives) (IsXdsRefusal listed) old new before now (Ok programme)
   list_made left Gives placed programme is room rate gives count = (
     read.0,
     read.1,
-    if_left (λ bytes. IsGoodList bytes list) (λ bytes. IsMadeOf (IsPlacedWith listed) xds_framing IsSoundXds left Gives bytes programme) old
+    if_left (λ bytes. IsGoodList bytes list) (λ bytes. IsProgrammeOf (IsPlacedWith listed) xds_framing left Gives bytes programme) old
         (λ bytes good. record {
-          is = record {
-            made = record { list = list; placed = placed; listed = listed; codes = room.placed };
-            accepted = record { accepted = record { good = good; placement = is }; listed_are = refl; room = room; codes_are = refl };
-            framing = record {
-              rate_is = rate;
-              gives = subst (λ (columns : Columns). Gives columns 0 programme.frames) (sym (columns_given list placed listed room)) gives;
-              count_is = count;
-            };
+          made = record { list = list; placed = placed; listed = listed; codes = room.placed };
+          accepted = record { accepted = record { good = good; placement = is }; listed_are = refl; room = room; codes_are = refl };
+          framing = record {
+            rate_is = rate;
+            gives = subst (λ (columns : Columns). Gives columns 0 programme.frames) (sym (columns_given list placed listed room)) gives;
+            count_is = count;
           };
-          sound = sound_placed list placed listed (sendable bytes placed good is) room;
         })
         read.2,
   )

@@ -13,13 +13,11 @@ use Rattle.cue_form.specs.RecordJudgements.{Judgement, count_place, first_offenc
 use Rattle.cue_form.specs.Records.{Record, records_of}
 use Rattle.cue_form.specs.declared.offence.Offence.{Offence}
 use Rattle.cue_form.specs.declared.offence.Offence.TheVariants as offence
-use Rattle.xds_commands.specs.PacketLists.{IsRefusedPackets}
-use Rattle.xds_commands.specs.declared.xds_of.XdsOf.{XdsOf}
+use Rattle.xds_commands.specs.PacketLists.{IsGoodPackets, IsRefusedPackets}
 use Rattle.xds_lists.proofs.ReadLemmas.{fault_of_read, list_of_read}
 use Rattle.xds_lists.specs.Form.{packet_judgements}
 use Rattle.xds_lists.specs.Reading.{Offending, packet_of_fields, read_from, read_packets}
 use Rattle.xds_packets.specs.Sending.{Listed}
-use Rattle.xds_commands.specs.XdsVerdict.{AreItsPackets}
 
 -- an offence at a field
 abbrev IsAt : Offence → Type 0
@@ -57,17 +55,17 @@ read_at (r ∷ rs) before number wrong is = on_found (first_offence (packet_judg
     (place, reason, sym (ap (λ (o : Offending). o.offence) same) ∙ at_field))
 
 by_read : (bytes : List ℕ) → length bytes ≤ whole_limit → (found : Result (List Listed) Offending) → read_packets (records_of bytes) ≡ found
-    → ((value : XdsOf) × AreItsPackets bytes value) ⊎ ((answer : Status) × IsRefusedPackets bytes answer)
+    → ((listed : List Listed) × IsGoodPackets bytes listed) ⊎ ((answer : Status) × IsRefusedPackets bytes answer)
 by_read bytes within (Ok listed) is =
     let spelled = list_of_read (records_of bytes) listed is in
-    inl (record { packets = listed; listed = spelled.in_range }, record { within = within; spelled = spelled })
+    inl (listed, record { within = within; spelled = spelled })
 by_read bytes within (Err wrong) is =
     let (place, reason, at_field) = read_at (records_of bytes) [] 1 wrong is in
     let read : read_packets (records_of bytes) ≡ Err (record { number = wrong.number; offence = offence.At place reason }) =
     is ∙ ap (λ (o : Offence). let it : Offending = record { number = wrong.number; offence = o } in Err it) at_field in
     inr (status.Malformed (Field wrong.number place) reason, (within, fault_of_read (records_of bytes) wrong.number place reason read))
 
-pub packets_judged : (bytes : List ℕ) → ((value : XdsOf) × AreItsPackets bytes value) ⊎ ((answer : Status) × IsRefusedPackets bytes answer)
+pub packets_judged : (bytes : List ℕ) → ((listed : List Listed) × IsGoodPackets bytes listed) ⊎ ((answer : Status) × IsRefusedPackets bytes answer)
 packets_judged bytes = elim (cases_lt whole_limit (length bytes)) [
   | inl long ↦ inr (status.Limit limit.Bytes, long)
   | inr within ↦ by_read bytes within (read_packets (records_of bytes)) refl

@@ -9,15 +9,14 @@ use Rattle.cue_list_commands.proofs.LanesLemmas.{one_placement}
 use Rattle.cue_list_commands.specs.Planned.{IsListPlaced, Placement}
 use Rattle.cue_list_commands.specs.Framing.{words_of}
 use Rattle.xds_frames.specs.XdsFrames.{HasXdsRoom, IsFirstWithoutXdsRoom}
-use Rattle.xds_commands.specs.PacketLists.{IsRefusedPackets}
+use Rattle.xds_commands.specs.PacketLists.{IsGoodPackets, IsRefusedPackets}
 use Rattle.xds_commands.specs.PlacedPackets.{IsPlacedWith, IsXdsRefusal}
 use Rattle.command_base.proofs.OneLemmas.{beside_one, made_one}
 use Rattle.command_base.specs.Exact.{IsOne}
 use Rattle.command_base.specs.MadeVerdict.{MadeVerdict}
-use Rattle.xds_commands.specs.XdsVerdict.{AreItsPackets, XdsVerdict}
+use Rattle.xds_commands.specs.XdsVerdict.{XdsVerdict}
 use Rattle.xds_commands.specs.Judged.{AcceptedIsNotRefused, RefusalIsOne}
 use Rattle.xds_commands.specs.XdsWords.{IsSoundXds, xds_framing}
-use Rattle.xds_commands.specs.declared.xds_of.XdsOf.{XdsOf}
 use Rattle.xds_commands.proofs.PacketListLemmas.{good_not_refused, packets_once, packets_refused_once}
 use Rattle.xds_frames.proofs.FrontLemmas.{one_lacks_room, room_lacks_none}
 use Rattle.xds_frames.specs.PlanAnswer.{LacksXdsRoom}
@@ -68,15 +67,12 @@ same_status listed bytes one other (inr refused) (inr again) = list_refused_once
 pub refused_once : RefusalIsOne
 refused_once listed bytes one other refused again = same_status listed bytes one other (cause_of listed bytes one refused) (cause_of listed bytes other again)
 
-abbrev OfPackets : List Listed → List ℕ → Status → List ℕ → Type 0
+abbrev pub OfPackets : List Listed → List ℕ → Status → List ℕ → Type 0
 OfPackets listed = MadeVerdict (IsPlacedWith listed) (λ made. words_of (xds_framing made)) IsSoundXds (IsXdsRefusal listed)
 
 pub xds_one : IsOne XdsVerdict
 xds_one =
-    beside_one AreItsPackets IsRefusedPackets (λ (command : XdsOf). OfPackets command.packets)
-    (λ aside command answer good refused. good_not_refused aside command.packets answer good refused) packets_refused_once
-    (λ aside input command other answer text good fine made.
-    subst (λ (l : List Listed). OfPackets l input answer text) (packets_once aside other.packets command.packets fine good) made)
-    (λ command.
-    made_one (IsPlacedWith command.packets) (λ made. words_of (xds_framing made)) IsSoundXds (IsXdsRefusal command.packets)
-    (accepted_not_refused command.packets) (refused_once command.packets))
+    beside_one IsGoodPackets IsRefusedPackets OfPackets good_not_refused packets_refused_once
+    (λ aside input listed other answer text good fine made. subst (λ (l : List Listed). OfPackets l input answer text) (packets_once aside other listed fine good) made)
+    (λ listed.
+    made_one (IsPlacedWith listed) (λ made. words_of (xds_framing made)) IsSoundXds (IsXdsRefusal listed) (accepted_not_refused listed) (refused_once listed))

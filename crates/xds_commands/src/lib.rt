@@ -2,9 +2,7 @@
 #![tactic(auto)]
 
 pub use crate::xds::run_xds;
-pub use crate::xds_of::XdsOf;
 
 pub mod laws;
 mod packet_list;
 mod xds;
-mod xds_of;
