@@ -7,7 +7,7 @@ pub use crate::carrier::Carrier;
 pub use crate::overlaid::Overlaid;
 pub use crate::overlay::Overlay;
 pub use crate::programme::Programme;
-pub use crate::put::{Output, Words, put_words};
+pub use crate::put::put_words;
 pub use frame_scheduler::{
     FrameBytes, Frames, Plan, PlanFault, fault_beside, placed_services, plan,
 };
