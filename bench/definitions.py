@@ -30,7 +30,7 @@ KINDS = {
     "tables": "cc_base line21_codes dtvcc_codes findings hex_digits line21_slots",
     "receivers": "line21_screen dtvcc_windows dtvcc_screen dtvcc_services cc_receiver cc_conceal line21_shown.Shown windows_shown.Filling"
     " services_shown.Buffers",
-    "grammars": "cc_data channel_packets service_blocks cdp_packets anc_words words_files services_files scc_files mcc_files time_codes"
+    "grammars": "cc_data channel_packets service_blocks cdp_packets anc_words caption_packets words_files services_files scc_files mcc_files time_codes"
     " xds_packets frame_carrier.FrameTriplets frame_carrier.Carrying lanes.DoubledPairs",
     "own forms": "cue_form xds_lists grid_print cue_types.Cues cue_types.Windows cue_types.Shares cue_list_commands.Lines"
     " words_commands.Screens words_commands.PacketLines words_commands.ConcealedScreens",

@@ -14,9 +14,9 @@
  *   MCC files are texts. Frames, cues and bytes are counted in whole numbers, as each field says; there are no times in seconds.
  *
  * ANSWERS
- *   Every call but `_close` returns one of the codes below, and says beside it which can come. Codes 0 to 13 are the exit statuses of the
- *   program. Where a call answers with a report, the report has the numbers of its status, and its line, which the program writes to its
- *   standard error; of CCSUITE_ARGUMENT it is `argument out of range`.
+ *   Every call but `_close` returns one of the codes below, and says beside it which can come. Codes 0 to 13 are the exit
+ *   statuses of the program. Where a call answers with a report, the report has the numbers of its status, and its line, which the program writes
+ *   to its standard error; of CCSUITE_ARGUMENT it is `argument out of range`, of CCSUITE_ROOM `too little room`.
  *
  * MEMORY
  *   The caller owns every buffer, and the library keeps no pointer to one beyond the call. A handle owns what its `_open` took from malloc, and
@@ -29,7 +29,8 @@
  *   A call on a closed handle answers CCSUITE_CLOSED and does nothing; closing a closed one does nothing; opening an open one frees what it
  *   held. An open that fails leaves the handle closed. A handle of another kind is answered as a closed one, and `_close` leaves it as it is.
  *
- * WHAT A CALLER OWES (nothing checks it)
+ * WHAT A CALLER OWES
+ *   Nothing checks it: by its type a pointer that comes from C is valid, so a null one can't be told from others; nor can a handle's copy.
  *   - A handle is zeroed before its first call, then written by this library's calls alone, and never copied. It goes to one call at a time; it
  *     may go from thread to thread. Different handles are independent.
  *   - A `bool` is 0 or 1. No pointer is null, even with length 0. A length counts bytes that may be read or, of `out`, written, and is below 2^63.
@@ -72,6 +73,18 @@ enum {
     CCSUITE_END = 33,         /* there is no further frame */
     CCSUITE_FULL = 34,        /* 4,294,967,295 frames have ended, and no more can be counted */
     CCSUITE_NONE = 35         /* there is no such frame or window */
+};
+
+/* Frame rates, by their codes in distribution packets (SMPTE ST 334-2). */
+enum {
+    CCSUITE_RATE_23_976 = 1,
+    CCSUITE_RATE_24 = 2,
+    CCSUITE_RATE_25 = 3,
+    CCSUITE_RATE_29_97 = 4,
+    CCSUITE_RATE_30 = 5,
+    CCSUITE_RATE_50 = 6,
+    CCSUITE_RATE_59_94 = 7,
+    CCSUITE_RATE_60 = 8
 };
 
 /* How a run ended. A number that the status doesn't carry is 0. Written whole by each call that takes one. */
@@ -174,10 +187,41 @@ uint32_t ccsuite_export_mcc(const uint8_t *words, size_t words_size, uint32_t fr
  * machine. ARGUMENT, ROOM, MEMORY. */
 uint32_t ccsuite_load(uint32_t count, uint8_t *out, size_t room, ccsuite_report *report);
 
-/* ---- A builder: the frames of a cue list, one after another ------------------------------------------------------------------------------ */
+/* ---- Packets of one frame ------------------------------------------------------------------------------------------------------------------
+ * A frame's captions as triplets of cc_data (CTA-708-E), in a distribution packet (CDP, SMPTE ST 334-2), in the words of an ancillary packet
+ * (SMPTE ST 334-1). None of these calls takes memory. Of ROOM `*written` is how many bytes are wanted, and `out` is as it was; of other answers than
+ * OK and ROOM it is 0. */
 
-/* The most bytes of a frame's ancillary packet. */
+/* The most bytes of the triplets of a packet that is written (31 of them), and of one that is read; of a distribution packet; of a packet's words. */
+#define CCSUITE_CC_DATA_SIZE 93
+#define CCSUITE_CC_DATA_ROOM 244
+#define CCSUITE_CDP_ROOM 255
 #define CCSUITE_PACKET_ROOM 524
+
+/* Triplets in, three bytes each; out the words of the packet that carries them and nothing else, with this rate and counter. ARGUMENT where the rate is
+ * none of the eight, the counter is above 65,535, or `size` isn't a multiple of three up to CCSUITE_CC_DATA_SIZE; ROOM. The marker bits, the top five of a
+ * triplet's first byte, are written as ones. */
+uint32_t ccsuite_words_from_cc_data(const uint8_t *cc_data, size_t size, uint32_t rate, uint32_t counter, uint8_t *out, size_t room, size_t *written);
+
+/* What a packet says beside its triplets. */
+typedef struct ccsuite_packet {
+    uint32_t rate;    /* the code of its rate */
+    uint32_t counter; /* its number, 0 to 65,535 */
+    uint32_t flags;   /* as they stand */
+    uint32_t reserved[5];
+} ccsuite_packet;
+
+/* The words of one ancillary packet of captions in; out its triplets as they stand, and in `packet` what else it says, which is written only where the
+ * answer is OK. MALFORMED where the words aren't just one such packet, whole and right in both layers (a receiver tells why, if they are fed to it); ROOM. */
+uint32_t ccsuite_cc_data_from_words(const uint8_t *words, size_t size, uint8_t *out, size_t room, size_t *written, ccsuite_packet *packet);
+
+/* A distribution packet in; out the words that carry it, byte for byte. MALFORMED where it isn't one, from the first byte to the last; ROOM. */
+uint32_t ccsuite_words_from_cdp(const uint8_t *cdp, size_t size, uint8_t *out, size_t room, size_t *written);
+
+/* The other way. MALFORMED as of ccsuite_cc_data_from_words; ROOM. */
+uint32_t ccsuite_cdp_from_words(const uint8_t *words, size_t size, uint8_t *out, size_t room, size_t *written);
+
+/* ---- A builder: the frames of a cue list, one after another ------------------------------------------------------------------------------ */
 
 typedef struct ccsuite_builder {
     bool live; /* the library's own */
@@ -191,6 +235,10 @@ uint32_t ccsuite_builder_open(const uint8_t *list, size_t list_size, ccsuite_bui
  * packet has more bytes than `out`, and then `*written` is how many, `out` is as it was, and the frame is still the next; END after the last frame,
  * from then on. Of CLOSED and END `*written` is 0. CCSUITE_PACKET_ROOM is always enough. */
 uint32_t ccsuite_builder_next(ccsuite_builder *builder, uint8_t *out, size_t room, size_t *written);
+
+/* The same of the frame's triplets of cc_data alone: as many as the rate's frames have, three bytes each. CCSUITE_CC_DATA_SIZE is always enough. Both
+ * calls go to the next frame. */
+uint32_t ccsuite_builder_next_cc_data(ccsuite_builder *builder, uint8_t *out, size_t room, size_t *written);
 
 void ccsuite_builder_close(ccsuite_builder *builder);
 
@@ -280,6 +328,11 @@ uint32_t ccsuite_receiver_open(ccsuite_receiver *receiver, bool conceals);
 /* Feeds bytes of words, up to the end of an ancillary packet: feed on behind fed->used. Takes no memory. CLOSED, FULL; MALFORMED where no file
  * goes on with a word, which is kept and answered from then on: what is shown stays. */
 uint32_t ccsuite_receiver_feed(ccsuite_receiver *receiver, const uint8_t *bytes, size_t size, ccsuite_fed *fed);
+
+/* Feeds the words that `ccsuite_words_from_cc_data` makes of these triplets; fed->used and fed->place count bytes of words. ARGUMENT as of that call, and
+ * then nothing is fed; else as `_feed`. A concealing receiver counts frames by the counters. */
+uint32_t ccsuite_receiver_feed_cc_data(ccsuite_receiver *receiver, const uint8_t *cc_data, size_t size, uint32_t rate, uint32_t counter,
+                                       ccsuite_fed *fed);
 
 /* Tells whether the words may end behind the bytes that were fed; fed->used and fed->ended are 0. CLOSED; MALFORMED where a word is refused, or
  * where bytes were fed and the last of them doesn't end a packet. What is shown stays, and more may be fed. */

@@ -146,9 +146,12 @@ fi
 undefined=$(nm -u build/libccsuite.a | awk 'NF == 2 { print $2 }' | sort -u | grep -vxE 'rattle_alloc|rattle_realloc|rattle_dealloc' | tr '\n' ' ')
 [ "$undefined" = 'free malloc memcpy memmove memset realloc ' ] || fail "the archive needs $undefined"
 nm -D --defined-only build/libccsuite.so | awk '{ print $3 }' | sort > "$work/given"
-grep -oE 'ccsuite_[a-z_]+\(' library/ccsuite.h | tr -d '(' | sort -u > "$work/told"
-diff "$work/told" "$work/given" || fail 'the header tells other calls than the library gives'
-echo "$(wc -l < "$work/told") calls; the archive needs: $undefined"
+nm -g --defined-only build/libccsuite.a | awk 'NF == 3 && $3 ~ /^ccsuite_[a-z_]+$/ { print $3 }' | sort > "$work/archived"
+gcc -fpreprocessed -dD -E -P library/ccsuite.h | grep -oE 'ccsuite_[a-z_]+\(' | tr -d '(' | sort -u > "$work/told"
+for names in given archived told; do
+    diff library/calls "$work/$names" || fail "the names $names aren't those of library/calls"
+done
+echo "$(wc -l < library/calls) calls; the archive needs: $undefined"
 
 objdump -p build/libccsuite.so | grep -q 'SONAME *libccsuite\.so\.0$' || fail 'the shared library has another soname'
 

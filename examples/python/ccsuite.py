@@ -28,8 +28,9 @@ from ctypes import POINTER, byref, c_bool, c_char, c_size_t, c_uint8, c_uint32, 
 from typing import Any, NamedTuple, TypeVar, Union
 
 __all__ = [
-    "Builder", "Cell", "Error", "Frame", "Receiver", "Status", "Verifier", "Window", "WindowCell", "build", "conceal", "convert", "cues", "decode",
-    "dual", "export_mcc", "export_scc", "import_mcc", "import_scc", "insert", "load", "pairs", "show", "verify", "xds", "xds_show",
+    "Builder", "Cell", "Error", "Frame", "Packet", "Rate", "Receiver", "Status", "Verifier", "Window", "WindowCell", "build",
+    "cc_data_from_words", "cdp_from_words", "conceal", "convert", "cues", "decode", "dual", "export_mcc", "export_scc", "import_mcc", "import_scc",
+    "insert", "load", "pairs", "show", "verify", "words_from_cc_data", "words_from_cdp", "xds", "xds_show",
 ]
 
 LIBRARY = os.environ.get("CCSUITE_LIBRARY", "libccsuite.so.0")
@@ -65,6 +66,19 @@ class Status(enum.IntEnum):
     NONE = 35
 
 
+class Rate(enum.IntEnum):
+    """Frames a second, by the codes of distribution packets (SMPTE ST 334-2)."""
+
+    F23_976 = 1
+    F24 = 2
+    F25 = 3
+    F29_97 = 4
+    F30 = 5
+    F50 = 6
+    F59_94 = 7
+    F60 = 8
+
+
 # The names of the reasons by their numbers, as the manual has them.
 REASONS = dict(enumerate("Overrun Identifier Length Rate Section Count Counter Sum HighBits WordParity Flag AncSum Truncated".split(), 1))
 REASONS |= dict(enumerate("NoSuchTime Header SccSyntax Backwards".split(), 14))
@@ -77,8 +91,8 @@ COLOURS = ("white", "green", "blue", "cyan", "red", "yellow", "magenta")
 CHANNELS = ("CC1", "CC2", "CC3", "CC4")
 # More than all screens and windows together, each cell a run of its own, have as text.
 SCREENS_ROOM = 32 << 20
-# The most bytes of a frame's ancillary packet.
-PACKET_ROOM = 524
+# The most bytes of a frame's ancillary packet, of its distribution packet, of its triplets, and of those of a packet that is read.
+PACKET_ROOM, CDP_ROOM, CC_DATA_SIZE, CC_DATA_ROOM = 524, 255, 93, 244
 
 
 _REPORT_NUMBERS = "status why limit misfit record field cue other packet frame channel service expected seen".split()
@@ -90,6 +104,10 @@ class _Report(ctypes.Structure):
 
 class _Fed(ctypes.Structure):
     _fields_ = [("used", c_size_t), ("place", c_uint64), ("ended", c_uint32), ("why", c_uint32)]
+
+
+class _Packet(ctypes.Structure):
+    _fields_ = [("rate", c_uint32), ("counter", c_uint32), ("flags", c_uint32), ("reserved", c_uint32 * 5)]
 
 
 class _Handle(ctypes.Structure):
@@ -176,17 +194,22 @@ def _error_of(report: _Report, written: bytes = b"") -> Error:
 _INPUT = [c_void_p, c_size_t]
 _OUTPUT = [c_void_p, c_size_t, POINTER(_Report)]
 _HANDLE = POINTER(_Handle)
+_FRONT = [c_void_p, c_size_t, POINTER(c_size_t)]
 _TAKEN = {
+    "words_from_cc_data": [*_INPUT, c_uint32, c_uint32, *_FRONT],
+    "cc_data_from_words": [*_INPUT, *_FRONT, POINTER(_Packet)],
+    **dict.fromkeys("words_from_cdp cdp_from_words".split(), [*_INPUT, *_FRONT]),
     **dict.fromkeys("pairs build cues decode conceal xds_show convert import import_mcc".split(), [*_INPUT, *_OUTPUT]),
     **dict.fromkeys("dual xds verify insert".split(), [*_INPUT, *_INPUT, *_OUTPUT]),
     "show": [*_INPUT, c_uint32, *_OUTPUT], "load": [c_uint32, *_OUTPUT], "export": [*_INPUT, POINTER(_Time), *_OUTPUT],
     "export_mcc": [*_INPUT, c_uint32, POINTER(_Time), *_OUTPUT],
-    "builder_open": [*_INPUT, _HANDLE, POINTER(_Report)], "builder_next": [_HANDLE, c_void_p, c_size_t, POINTER(c_size_t)],
+    "builder_open": [*_INPUT, _HANDLE, POINTER(_Report)], **dict.fromkeys("builder_next builder_next_cc_data".split(), [_HANDLE, *_FRONT]),
     "receiver_open": [_HANDLE, c_bool], "receiver_feed": [_HANDLE, *_INPUT, POINTER(_Fed)], "receiver_finish": [_HANDLE, POINTER(_Fed)],
     "receiver_frame": [_HANDLE, POINTER(_Frame)], "receiver_cell": [_HANDLE, c_uint32, c_uint32, c_uint32, POINTER(_Cell)],
     "receiver_window": [_HANDLE, c_uint32, c_uint32, POINTER(_Window)],
     "receiver_window_cell": [_HANDLE, c_uint32, c_uint32, c_uint32, c_uint32, POINTER(_WindowCell)],
-    **dict.fromkeys("receiver_changes receiver_screens".split(), [_HANDLE, c_void_p, c_size_t, POINTER(c_size_t)]),
+    **dict.fromkeys("receiver_changes receiver_screens".split(), [_HANDLE, *_FRONT]),
+    "receiver_feed_cc_data": [_HANDLE, *_INPUT, c_uint32, c_uint32, POINTER(_Fed)],
     "verifier_open": [*_INPUT, _HANDLE, POINTER(_Report)], "verifier_feed": [_HANDLE, *_INPUT, POINTER(_Fed)],
     "verifier_verdict": [_HANDLE, POINTER(_Report)],
     **dict.fromkeys("builder_close receiver_close verifier_close".split(), [_HANDLE]),
@@ -251,6 +274,48 @@ def _run(name: str, *given: Text, more: tuple[Any, ...] = ()) -> bytes:
     if status != Status.OK:
         raise _error_of(report, written)
     return written
+
+
+# ---- Packets of one frame ------------------------------------------------------------------------------------------------------------------
+
+
+class Packet(NamedTuple):
+    """What a distribution packet says besides its triplets: the code of its rate, its number, and its flags."""
+
+    rate: int
+    counter: int
+    flags: int
+
+
+def _front(name: str, given: Bytes, room: int, before: tuple = (), behind: tuple = ()) -> bytes:
+    """What a call on one packet writes."""
+    data, out, written = _bytes_of(given), (c_uint8 * room)(), c_size_t()
+    status = _CALLS[name](_address_of(data), len(data), *before, out, room, byref(written), *behind)
+    if status != Status.OK:
+        raise Error(status)
+    return bytes(out[:written.value])
+
+
+def words_from_cc_data(cc_data: Bytes, rate: int, counter: int) -> bytes:
+    """The words of the packet that carries a frame's triplets, three bytes each, at a rate (`Rate`), with a number of 0 to 65,535."""
+    return _front("words_from_cc_data", cc_data, PACKET_ROOM, (_number("rate", rate, 1, 8), _number("counter", counter, 0, 65_535)))
+
+
+def cc_data_from_words(words: Bytes) -> tuple[bytes, Packet]:
+    """The triplets that the words of one ancillary packet carry, and what else its distribution packet says."""
+    packet = _Packet()
+    cc_data = _front("cc_data_from_words", words, CC_DATA_ROOM, (), (byref(packet),))
+    return cc_data, Packet(packet.rate, packet.counter, packet.flags)
+
+
+def words_from_cdp(cdp: Bytes) -> bytes:
+    """The words that carry a distribution packet, byte for byte."""
+    return _front("words_from_cdp", cdp, PACKET_ROOM)
+
+
+def cdp_from_words(words: Bytes) -> bytes:
+    """The distribution packet that the words of one ancillary packet carry."""
+    return _front("cdp_from_words", words, CDP_ROOM)
 
 
 # ---- Whole runs -------------------------------------------------------------------------------------------------------------------------
@@ -427,8 +492,15 @@ class Builder(_Open):
         return self
 
     def __next__(self) -> bytes:
+        return self._next("next")
+
+    def next_cc_data(self) -> bytes:
+        """The triplets of the next frame, three bytes each, as many as the rate's frames have; StopIteration after the last one."""
+        return self._next("next_cc_data")
+
+    def _next(self, name: str) -> bytes:
         packet, written = (c_uint8 * PACKET_ROOM)(), c_size_t()
-        if self._call("next", packet, PACKET_ROOM, byref(written)) == Status.END:
+        if self._call(name, packet, PACKET_ROOM, byref(written)) == Status.END:
             raise StopIteration
         return bytes(packet[:written.value])
 
@@ -528,6 +600,16 @@ class Receiver(_Open):
     def feed(self, words: Bytes) -> int:
         """Feeds words to their end. Returns the number of frames that ended in them."""
         return sum(1 for _ in self.frames(words))
+
+    def feed_cc_data(self, cc_data: Bytes, rate: int, counter: int) -> Frame:
+        """Feeds a frame's triplets, at a rate (`Rate`), with a number of 0 to 65,535: a whole frame."""
+        given, fed = _bytes_of(cc_data), _Fed()
+        numbers = _number("rate", rate, 1, 8), _number("counter", counter, 0, 65_535)
+        if self._call("feed_cc_data", _address_of(given), len(given), *numbers, byref(fed)) == Status.MALFORMED:
+            raise self._refused(fed)
+        frame = self.frame()
+        assert frame
+        return frame
 
     def finish(self) -> None:
         """Returns if the words may end here."""

@@ -210,6 +210,37 @@ class Handles(unittest.TestCase):
         gc.collect()
 
 
+class Packets(unittest.TestCase):
+    # Frame 0 of HELLO: resume caption loading in field 1, null in field 2, and what doesn't count.
+    TRIPLETS = bytes.fromhex("FC9420 FD8080" + "FA0000" * 18)
+
+    def test_cc_data(self):
+        words = ccsuite.build(HELLO)
+        self.assertEqual(ccsuite.cc_data_from_words(words[:160]), (self.TRIPLETS, ccsuite.Packet(ccsuite.Rate.F29_97, 0, 0x43)))
+        again = ccsuite.words_from_cc_data(self.TRIPLETS, ccsuite.Rate.F29_97, 258)
+        self.assertEqual(ccsuite.cc_data_from_words(again), (self.TRIPLETS, ccsuite.Packet(4, 258, ccsuite.cc_data_from_words(again)[1].flags)))
+        with ccsuite.Builder(HELLO) as builder:
+            self.assertEqual(builder.next_cc_data(), self.TRIPLETS)
+            self.assertEqual(next(builder), words[160:320])
+        refused(self, Status.MALFORMED, ccsuite.cc_data_from_words, words[:159])
+        refused(self, Status.ARGUMENT, ccsuite.words_from_cc_data, b"12", 4, 0)
+        self.assertRaises(ValueError, ccsuite.words_from_cc_data, b"", 9, 0)
+
+    def test_cdp(self):
+        words = ccsuite.build(HELLO)[:160]
+        cdp = ccsuite.cdp_from_words(words)
+        self.assertEqual((len(cdp), cdp[:7].hex()), (73, "9669494f430000"))
+        self.assertEqual(ccsuite.words_from_cdp(cdp), words)
+        refused(self, Status.MALFORMED, ccsuite.words_from_cdp, cdp[:-1])
+
+    def test_player(self):
+        """A player is fed triplets."""
+        with ccsuite.Builder(HELLO) as builder, ccsuite.Receiver() as receiver:
+            for counter in range(8):
+                self.assertEqual(receiver.feed_cc_data(builder.next_cc_data(), ccsuite.Rate.F29_97, counter).number, counter)
+            self.assertEqual([it and it.character for it in (receiver.cell("CC1", 15, column) for column in range(3))], ["H", "I", None])
+
+
 class Module(unittest.TestCase):
     def test_reasons(self):
         wanted = "Overrun Truncated NoSuchTime Backwards Field Order PastEnd OffSlot MccSyntax CounterJump EightBits"

@@ -311,6 +311,63 @@ static void closed(void) {
     }
 }
 
+/* one frame's packets: what is written is read again, whole and bit by bit */
+static void packets(void) {
+    uint8_t words[CCSUITE_PACKET_ROOM], again[CCSUITE_PACKET_ROOM], cc_data[CCSUITE_CC_DATA_ROOM] = {0}, cdp[CCSUITE_CDP_ROOM], triplets[96];
+    size_t written, size;
+    ccsuite_builder builder = {0}, other = {0};
+    ccsuite_receiver receiver = {0}, by_words = {0};
+    ccsuite_report r;
+    ccsuite_fed fed, fed_words;
+    ccsuite_cell cell;
+    POISONED(ccsuite_packet, packet);
+    CHECK(ccsuite_builder_open(TEXT(HELLO), &builder, &r) == 0 && ccsuite_builder_open(TEXT(HELLO), &other, &r) == 0);
+    CHECK(ccsuite_receiver_open(&receiver, true) == 0 && ccsuite_receiver_open(&by_words, true) == 0);
+    for (uint32_t n = 0; n < 30; n++) {
+        CHECK(ccsuite_builder_next(&builder, words, sizeof words, &written) == CCSUITE_OK && written == 160);
+        CHECK(ccsuite_builder_next_cc_data(&other, cc_data, 59, &size) == CCSUITE_ROOM && size == 60);
+        CHECK(ccsuite_builder_next_cc_data(&other, cc_data, 60, &size) == CCSUITE_OK && size == 60);
+        CHECK(ccsuite_cc_data_from_words(words, written, triplets, 60, &size, &packet.it) == CCSUITE_OK && size == 60);
+        CHECK(memcmp(cc_data, triplets, 60) == 0 && packet.it.rate == CCSUITE_RATE_29_97 && packet.it.counter == n && packet.it.flags == 0x43);
+        CHECK(ccsuite_words_from_cc_data(cc_data, 60, CCSUITE_RATE_29_97, n, again, sizeof again, &size) == CCSUITE_OK && size == written);
+        CHECK(memcmp(words, again, written) == 0);
+        CHECK(ccsuite_cdp_from_words(words, written, cdp, sizeof cdp, &size) == CCSUITE_OK && size == 73 && cdp[0] == 0x96 && cdp[5] == 0 && cdp[6] == n);
+        CHECK(ccsuite_words_from_cdp(cdp, size, again, 160, &size) == CCSUITE_OK && size == written && memcmp(words, again, written) == 0);
+        CHECK(ccsuite_receiver_feed_cc_data(&receiver, cc_data, 60, CCSUITE_RATE_29_97, n, &fed) == CCSUITE_OK && fed.used == 160 && fed.ended == 2);
+        CHECK(ccsuite_receiver_feed(&by_words, words, written, &fed_words) == CCSUITE_OK && memcmp(&fed, &fed_words, sizeof fed) == 0);
+    }
+    CHECK_BEHIND(packet);
+    CHECK(ccsuite_builder_next_cc_data(&other, cc_data, 0, &size) == CCSUITE_END && size == 0);
+    CHECK(ccsuite_builder_next(&other, words, 0, &size) == CCSUITE_END);
+    for (size_t bit = 0; bit < 8 * written; bit++) { /* each bit changed is seen */
+        words[bit / 8] ^= (uint8_t)(1u << bit % 8);
+        CHECK(ccsuite_cdp_from_words(words, written, cdp, sizeof cdp, &size) == CCSUITE_MALFORMED && size == 0);
+        CHECK(ccsuite_cc_data_from_words(words, written, cc_data, sizeof cc_data, &size, &packet.it) == CCSUITE_MALFORMED && size == 0);
+        words[bit / 8] ^= (uint8_t)(1u << bit % 8);
+    }
+    CHECK(ccsuite_cdp_from_words(words, written - 2, cdp, sizeof cdp, &size) == CCSUITE_MALFORMED);
+    CHECK(ccsuite_cdp_from_words(words, written + 2, cdp, sizeof cdp, &size) == CCSUITE_MALFORMED);
+    CHECK(ccsuite_cdp_from_words(words, written, cdp, 72, &size) == CCSUITE_ROOM && size == 73);
+    memset(&packet, 0xEE, sizeof packet);
+    CHECK(ccsuite_cc_data_from_words(words, written, cc_data, 59, &size, &packet.it) == CCSUITE_ROOM && size == 60 && IS_POISONED(packet));
+    CHECK(ccsuite_words_from_cc_data(cc_data, 93, CCSUITE_RATE_60, 65535, again, sizeof again, &size) == CCSUITE_OK && size == 226);
+    CHECK(ccsuite_words_from_cc_data(cc_data, 0, CCSUITE_RATE_23_976, 0, again, 39, &size) == CCSUITE_ROOM && size == 40);
+    CHECK(ccsuite_words_from_cc_data(cc_data, 96, 4, 0, again, sizeof again, &size) == CCSUITE_ARGUMENT && size == 0);
+    CHECK(ccsuite_words_from_cc_data(cc_data, 61, 4, 0, again, sizeof again, &size) == CCSUITE_ARGUMENT);
+    CHECK(ccsuite_words_from_cc_data(cc_data, 60, 0, 0, again, sizeof again, &size) == CCSUITE_ARGUMENT);
+    CHECK(ccsuite_words_from_cc_data(cc_data, 60, 260, 0, again, sizeof again, &size) == CCSUITE_ARGUMENT);
+    CHECK(ccsuite_words_from_cc_data(cc_data, 60, 4, 65536, again, sizeof again, &size) == CCSUITE_ARGUMENT);
+    CHECK(ccsuite_receiver_feed_cc_data(&receiver, cc_data, 61, 4, 30, &fed) == CCSUITE_ARGUMENT && fed.used == 0 && fed.ended == 0);
+    CHECK(ccsuite_receiver_feed_cc_data(&receiver, cc_data, 60, 4, 30, &fed) == CCSUITE_OK);
+    CHECK(ccsuite_receiver_cell(&receiver, 1, 15, 0, &cell) == CCSUITE_OK);
+    ccsuite_builder_close(&builder);
+    ccsuite_builder_close(&other);
+    ccsuite_receiver_close(&receiver);
+    ccsuite_receiver_close(&by_words);
+    CHECK(ccsuite_builder_next_cc_data(&builder, cc_data, sizeof cc_data, &size) == CCSUITE_CLOSED && size == 0);
+    CHECK(ccsuite_receiver_feed_cc_data(&receiver, cc_data, 60, 4, 0, &fed) == CCSUITE_CLOSED && fed.used == 0);
+}
+
 /* changes that don't fit aren't told again, and all that is shown is */
 static void texts(void) {
     static const char SHOWN[] = "frame 7\nCC1 1\n15 0 yellow-u HI\n";
@@ -392,6 +449,7 @@ static void refusals(void) {
     ccsuite_fed fed;
     ccsuite_frame frame;
     ccsuite_cell cell;
+    ccsuite_packet packet;
     size_t written;
     CHECK(ccsuite_build(list, size, words, sizeof words, &r) == CCSUITE_OK);
     REFUSE(ccsuite_build(list, size, out, sizeof out, &r));
@@ -417,6 +475,9 @@ static void refusals(void) {
         TAKES_NONE(ccsuite_receiver_feed(&receiver, out, written, &fed));
         TAKES_NONE(ccsuite_verifier_feed(&verifier, out, written, &fed));
     }
+    TAKES_NONE(ccsuite_cc_data_from_words(words, 160, out, sizeof out, &written, &packet));
+    TAKES_NONE(ccsuite_words_from_cc_data(out, 60, 4, 0, out + 100, 1000, &written));
+    TAKES_NONE(ccsuite_receiver_feed_cc_data(&receiver, out, 60, 4, 30, &fed));
     TAKES_NONE(ccsuite_receiver_finish(&receiver, &fed));
     TAKES_NONE(ccsuite_receiver_frame(&receiver, &frame));
     TAKES_NONE(ccsuite_receiver_cell(&receiver, 1, 15, 0, &cell));
@@ -435,6 +496,7 @@ int main(int argc, char **argv) {
     cells(argv[1]);
     layouts();
     closed();
+    packets();
     texts();
     threads();
     refusals();

@@ -1,9 +1,11 @@
 -- Believed in part: the library's answers stand on some of these definitions.
 -- Builders: an accepted list on its way to ancillary packets, frame by frame.
 use Rattle.std.specs.Prelude.{◌≡◌, ◌+◌, ◌<◌, ◌++◌, ℕ, List, length, drop, Option, Some, None, IsSome}
+use Rattle.cc_data.specs.Triplets.{all_written}
 use Rattle.cue_lists.specs.Listing.{Listing}
 use Rattle.cue_list_commands.specs.Accepted.{IsAccepted}
 use Rattle.cue_list_commands.specs.Carrying.{IsAt, channel_packet_of, frame_bytes, packets_before}
+use Rattle.cue_list_commands.specs.FrameTriplets.{frame_triplets}
 use Rattle.cue_list_commands.specs.Carrier.{Carrier}
 use Rattle.cue_list_commands.specs.Columns.{Columns}
 use Rattle.cue_list_commands.specs.Frames.{GivesFrom, frames_left}
@@ -11,6 +13,8 @@ use Rattle.cue_list_commands.specs.Planned.{Placement, columns_of}
 use Rattle.cue_list_commands.specs.FrameBytes.{FrameBytes}
 use Rattle.cue_list_commands.specs.Plan.{Plan}
 use Rattle.caption_streams.specs.declared.building.Building.{Building}
+use Rattle.caption_streams.specs.declared.building.FrameForm.{FrameForm}
+use Rattle.caption_streams.specs.declared.building.FrameForm.TheVariants as form
 use Rattle.caption_streams.specs.declared.building.NextFrame.{NextFrame}
 use Rattle.caption_streams.specs.declared.building.NextFrame.TheVariants as asked
 
@@ -37,6 +41,16 @@ pub record IsBuilding (list : Listing) (placed : Placement) (frame : ℕ) (build
 abbrev pub packet_of : Listing → Placement → ℕ → List ℕ
 packet_of list placed frame =
     frame_bytes list.rate frame (columns_of list placed frame) (channel_packet_of (columns_of list placed) frame)
+
+-- its triplets, three bytes each
+abbrev pub cc_data_of : Listing → Placement → ℕ → List ℕ
+cc_data_of list placed frame =
+    all_written (frame_triplets list.rate (columns_of list placed frame) (channel_packet_of (columns_of list placed) frame))
+
+-- the one or the other
+abbrev pub frame_in : FrameForm → Listing → Placement → ℕ → List ℕ
+frame_in form.Words list placed frame = packet_of list placed frame
+frame_in form.CcData list placed frame = cc_data_of list placed frame
 
 -- a builder at frame 0 of the list that these bytes are accepted as
 pub record Begins (bytes : List ℕ) (building : Building) : Type 0 where

@@ -1,17 +1,28 @@
-ghost use Rattle.std.specs.Prelude.{◌≡◌, ◌+◌, ◌⊎◌, [], ℕ, List, IfErr, IfOk, IsSome, None, Option};
+ghost use Rattle.std.specs.Prelude.{◌≡◌, ◌≤◌, ◌<◌, ◌+◌, ◌⊎◌, [], ℕ, List, All, IfErr, IfOk, IsSome, None, Option, length};
+ghost use Rattle.cc_data.specs.Triplets.{all_written};
 ghost use Rattle.command_base.specs.declared.status.Status.TheVariants as status;
 ghost use Rattle.cue_list_commands.specs.Accepted.{IsRefused};
 ghost use Rattle.cue_list_commands.specs.Reads.{IsProgrammeOf};
 ghost use Rattle.cue_lists.specs.Listing.{Listing};
 ghost use Rattle.cue_list_commands.specs.Carrying.{IsAt, packets_before};
 ghost use Rattle.cue_list_commands.specs.Planned.{Placement, columns_of};
-ghost use Rattle.caption_streams.specs.Builders.{Begins, GivesNext, IsBuilding, IsCarriedNext, IsOver, frames_to_come, packet_of};
+ghost use Rattle.caption_streams.specs.Builders.{Begins, GivesNext, IsBuilding, IsCarriedNext, IsOver, cc_data_of, frame_in, frames_to_come, packet_of};
 
 use crate::slice_source::SliceSource;
 use arrayvec::ArrayVec;
+use cc_data::{Triplet, write_triplet};
 use command_base::Status;
 use cue_list_commands::{Carrier, FrameBytes, Frames, Plan, Programme, read_programme};
 use std::alloc::Global;
+
+/// In which form a builder gives its frames.
+#[derive(Clone, Copy, PartialEq, Eq)]
+pub enum FrameForm {
+    /// The words of its ancillary packet (SMPTE ST 334-1).
+    Words,
+    /// Its triplets of cc_data, three bytes each, as many as the rate's frames have (CTA-708-E, cc_data()).
+    CcData,
+}
 
 /// What came of asking a builder for its next frame.
 #[derive(Clone, Copy, PartialEq, Eq)]
@@ -59,19 +70,34 @@ impl Building {
         }
     }
 
-    /// Writes the ancillary packet of the next frame to the front of `out`. Where that has too little room, nothing is written, and the
-    /// frame is still the next; so after the last frame.
-    pub fn next(&mut self, out: &mut [u8]) -> NextFrame
+    /// Writes the next frame to the front of `out`. Where that has too little room, nothing is written, and the frame is still the next; so
+    /// after the last frame.
+    pub fn next(&mut self, form: FrameForm, out: &mut [u8]) -> NextFrame
         ensures next { (list : Listing) (placed : Placement) (frame : ℕ)
             → IsBuilding list placed frame self.old
-            → GivesNext list placed frame (packet_of list placed frame)
+            → GivesNext list placed frame (frame_in form list placed frame)
             out.old out.new self.old self.new result }
         ensures over { frames_to_come self.old ≡ 0 → IsOver out.old out.new self.old self.new result }
     {
-        let mut words = ArrayVec::new();
-        match self.carry_words(&mut words) {
-            Some(carrier) => self.give(&words, carrier, out),
+        let mut bytes = ArrayVec::new();
+        match self.carry(form, &mut bytes) {
+            Some(carrier) => self.give(&bytes, carrier, out),
             None => NextFrame::Over,
+        }
+    }
+
+    // Writes the next frame, if there is one, into empty `bytes`: the carrier behind it.
+    fn carry(&self, form: FrameForm, bytes: &mut ArrayVec<u8, 524>) -> Option<Carrier>
+        requires { bytes.old.items ≡ [] }
+        ensures next { (list : Listing) (placed : Placement) (frame : ℕ)
+            → IsBuilding list placed frame self.now
+            → IsCarriedNext list placed frame (frame_in form list placed frame)
+            self.now bytes.new.items result }
+        ensures over { frames_to_come self.now ≡ 0 → result ≡ None }
+    {
+        match form {
+            FrameForm::Words => self.carry_words(bytes),
+            FrameForm::CcData => self.carry_cc_data(bytes),
         }
     }
 
@@ -89,6 +115,24 @@ impl Building {
         };
         let mut carrier = self.carrier;
         carrier.put_words(frame, words);
+        Some(carrier)
+    }
+
+    // The same of its triplets of cc_data.
+    fn carry_cc_data(&self, bytes: &mut ArrayVec<u8, 524>) -> Option<Carrier>
+        requires { bytes.old.items ≡ [] }
+        ensures next { (list : Listing) (placed : Placement) (frame : ℕ)
+            → IsBuilding list placed frame self.now
+            → IsCarriedNext list placed frame (cc_data_of list placed frame)
+            self.now bytes.new.items result }
+        ensures over { frames_to_come self.now ≡ 0 → result ≡ None }
+    {
+        let Some(frame) = &self.ahead else {
+            return None;
+        };
+        let mut carrier = self.carrier;
+        let triplets = carrier.triplets(frame);
+        write_all(&triplets, bytes);
         Some(carrier)
     }
 
@@ -116,5 +160,22 @@ impl Building {
     {
         self.carrier = carrier;
         self.ahead = self.plan.next();
+    }
+}
+
+// Writes triplets, three bytes each, into empty `bytes`.
+fn write_all(triplets: &[Triplet], bytes: &mut ArrayVec<u8, 524>)
+    requires few { length triplets.now ≤ 31 }
+    requires kinds { All (λ t. t.kind < 4) triplets.now }
+    requires empty { bytes.old.items ≡ [] }
+    ensures { bytes.new.items ≡ all_written triplets.now }
+{
+    for triplet in triplets {
+        if bytes
+            .try_extend_from_slice(&write_triplet(*triplet))
+            .is_err()
+        {
+            unreachable!();
+        }
     }
 }

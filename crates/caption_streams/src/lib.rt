@@ -3,7 +3,7 @@
 //! from one call to the next.
 #![tactic(auto)]
 
-pub use crate::building::{Building, NextFrame};
+pub use crate::building::{Building, FrameForm, NextFrame};
 pub use crate::fault::FeedFault;
 pub use crate::receiving::Receiving;
 pub use crate::reception::Reception;

@@ -1,3 +1,4 @@
 pub mod FedLemmas
 pub mod LooseValues
+pub mod PacketLemmas
 pub mod PointerValues

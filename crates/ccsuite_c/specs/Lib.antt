@@ -4,6 +4,7 @@ pub mod Cells
 pub mod Codes
 pub mod Handles
 pub mod Held
+pub mod Packets
 pub mod Receivers
 pub mod States
 pub mod Told

@@ -1,7 +1,7 @@
 ghost use Rattle.std.specs.Prelude.{◌≡◌, ℕ, None, Some, IfErr, IfOk};
 ghost use Rattle.cue_lists.specs.Listing.{Listing};
 ghost use Rattle.caption_streams.specs.Planned.{Placement};
-ghost use Rattle.caption_streams.specs.Builders.{Begins, IsBuilding, frames_to_come, packet_of};
+ghost use Rattle.caption_streams.specs.Builders.{Begins, IsBuilding, cc_data_of, frame_in, frames_to_come, packet_of};
 ghost use Rattle.caption_streams.specs.declared.building.Building.{Building as BuildingOf};
 ghost use Rattle.ccsuite_c.specs.Builders.{NextAnswer, Opening, OverAnswer, Refuses};
 ghost use Rattle.ccsuite_c.specs.Codes.{closed_code};
@@ -12,7 +12,7 @@ ghost use Rattle.ccsuite_c.specs.declared.state.State.TheVariants as held;
 use crate::handle::Handle;
 use crate::state::State;
 use crate::told::{CLOSED, tell_next};
-use caption_streams::Building;
+use caption_streams::{Building, FrameForm};
 use command_base::Status;
 use reported_runs::{Report, report_of};
 use std::alloc::Global;
@@ -75,25 +75,71 @@ pub extern "C" fn ccsuite_builder_next(
         → (result ≡ closed_code)
         × StaysSo out.old out.new written.new (state_in builder.old) (state_in builder.new) }
 {
+    next_of(alloc, builder, FrameForm::Words, out, written)
+}
+
+/// Writes the triplets of cc_data of the next frame to the front of `out`, three bytes each, as `ccsuite_builder_next` writes its packet.
+#[unsafe(no_mangle)]
+pub extern "C" fn ccsuite_builder_next_cc_data(
+    alloc: Global,
+    builder: &mut Handle,
+    out: &mut [u8],
+    written: &mut usize,
+) -> u32
+    ensures next { (b : BuildingOf) (list : Listing) (placed : Placement) (frame : ℕ)
+        → state_in builder.old ≡ Some (held.Building b)
+        → IsBuilding list placed frame b
+        → NextAnswer list placed frame (cc_data_of list placed frame)
+        b out.old out.new result written.new (state_in builder.new) }
+    ensures over { (b : BuildingOf) → state_in builder.old ≡ Some (held.Building b)
+        → frames_to_come b ≡ 0
+        → OverAnswer b out.old out.new result written.new (state_in builder.new) }
+    ensures closed { HasNoBuilder (state_in builder.old)
+        → (result ≡ closed_code)
+        × StaysSo out.old out.new written.new (state_in builder.old) (state_in builder.new) }
+{
+    next_of(alloc, builder, FrameForm::CcData, out, written)
+}
+
+// Writes the next frame of what a handle holds to the front of `out`.
+fn next_of(
+    alloc: Global,
+    builder: &mut Handle,
+    form: FrameForm,
+    out: &mut [u8],
+    written: &mut usize,
+) -> u32
+    ensures next { (b : BuildingOf) (list : Listing) (placed : Placement) (frame : ℕ)
+        → state_in builder.old ≡ Some (held.Building b)
+        → IsBuilding list placed frame b
+        → NextAnswer list placed frame (frame_in form list placed frame)
+        b out.old out.new result written.new (state_in builder.new) }
+    ensures over { (b : BuildingOf) → state_in builder.old ≡ Some (held.Building b)
+        → frames_to_come b ≡ 0
+        → OverAnswer b out.old out.new result written.new (state_in builder.new) }
+    ensures closed { HasNoBuilder (state_in builder.old)
+        → (result ≡ closed_code)
+        × StaysSo out.old out.new written.new (state_in builder.old) (state_in builder.new) }
+{
     *written = 0;
     match builder.take(alloc) {
         None => CLOSED,
         Some(mut state) => {
-            let code = next(&mut state, out, written);
+            let code = next(&mut state, form, out, written);
             *builder = Handle::of(state);
             code
         }
     }
 }
 
-// Writes the packet of the next frame of a builder to the front of `out`.
-fn next(state: &mut State, out: &mut [u8], written: &mut usize) -> u32
+// Writes the next frame of a builder to the front of `out`.
+fn next(state: &mut State, form: FrameForm, out: &mut [u8], written: &mut usize) -> u32
     requires none { written.old ≡ 0 }
     requires fed { WasFed state.old }
     ensures next { (b : BuildingOf) (list : Listing) (placed : Placement) (frame : ℕ)
         → state.old ≡ held.Building b
         → IsBuilding list placed frame b
-        → NextAnswer list placed frame (packet_of list placed frame)
+        → NextAnswer list placed frame (frame_in form list placed frame)
         b out.old out.new result written.new (Some state.new) }
     ensures over { (b : BuildingOf) → state.old ≡ held.Building b → frames_to_come b ≡ 0
         → OverAnswer b out.old out.new result written.new (Some state.new) }
@@ -103,21 +149,21 @@ fn next(state: &mut State, out: &mut [u8], written: &mut usize) -> u32
     ensures fed { WasFed state.new }
 {
     match state {
-        State::Building(building) => next_on(building, out, written),
+        State::Building(building) => next_on(building, form, out, written),
         _ => CLOSED,
     }
 }
 
-fn next_on(building: &mut Building, out: &mut [u8], written: &mut usize) -> u32
+fn next_on(building: &mut Building, form: FrameForm, out: &mut [u8], written: &mut usize) -> u32
     ensures next { (list : Listing) (placed : Placement) (frame : ℕ)
         → IsBuilding list placed frame building.old
-        → NextAnswer list placed frame (packet_of list placed frame)
+        → NextAnswer list placed frame (frame_in form list placed frame)
         building.old out.old out.new result written.new (Some (held.Building building.new)) }
     ensures over { frames_to_come building.old ≡ 0
         → OverAnswer building.old out.old out.new result written.new
         (Some (held.Building building.new)) }
 {
-    tell_next(building.next(out), written)
+    tell_next(building.next(form, out), written)
 }
 
 /// Closes a builder, and frees what it holds; a closed one, and one of another kind, stays as it is.

@@ -2,7 +2,9 @@
 //! what each call does, and what its caller owes.
 #![tactic(auto)]
 
-pub use crate::builder::{ccsuite_builder_close, ccsuite_builder_next, ccsuite_builder_open};
+pub use crate::builder::{
+    ccsuite_builder_close, ccsuite_builder_next, ccsuite_builder_next_cc_data, ccsuite_builder_open,
+};
 pub use crate::calls::{
     StartTime, ccsuite_build, ccsuite_conceal, ccsuite_convert, ccsuite_cues, ccsuite_decode,
     ccsuite_dual, ccsuite_export, ccsuite_export_mcc, ccsuite_import, ccsuite_import_mcc,
@@ -11,10 +13,15 @@ pub use crate::calls::{
 };
 pub use crate::cells::{Edge, Shade, TextCell, WindowCell, WindowSeen};
 pub use crate::handle::Handle;
+pub use crate::packets::{
+    PacketSeen, ccsuite_cc_data_from_words, ccsuite_cdp_from_words, ccsuite_words_from_cc_data,
+    ccsuite_words_from_cdp,
+};
 pub use crate::receiver::{
     FrameSeen, ccsuite_receiver_cell, ccsuite_receiver_changes, ccsuite_receiver_close,
-    ccsuite_receiver_feed, ccsuite_receiver_finish, ccsuite_receiver_frame, ccsuite_receiver_open,
-    ccsuite_receiver_screens, ccsuite_receiver_window, ccsuite_receiver_window_cell,
+    ccsuite_receiver_feed, ccsuite_receiver_feed_cc_data, ccsuite_receiver_finish,
+    ccsuite_receiver_frame, ccsuite_receiver_open, ccsuite_receiver_screens,
+    ccsuite_receiver_window, ccsuite_receiver_window_cell,
 };
 pub use crate::told::FedBytes;
 pub use crate::verifier::{
@@ -26,6 +33,7 @@ mod calls;
 mod cells;
 mod handle;
 mod loose;
+mod packets;
 mod pointer;
 mod receiver;
 mod state;

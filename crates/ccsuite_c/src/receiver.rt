@@ -1,7 +1,9 @@
 ghost use Rattle.std.specs.Prelude.{◌≡◌, ◌≢◌, ◌⊎◌, ◌<◌, ◌≤◌, ℕ, List, [], None, Some, IfOk};
+ghost use Rattle.caption_packets.specs.FrameWords.{IsFrame, cc_data_words};
 ghost use Rattle.caption_streams.specs.Receivings.{reception_of};
 ghost use Rattle.caption_streams.specs.Receptions.{HasFed, StandsBehind, service_behind};
 ghost use Rattle.caption_streams.specs.declared.receiving.Receiving.{Receiving as ReceivingOf};
+ghost use Rattle.cc_base.specs.declared.rate.Rate.{Rate as RateOf};
 ghost use Rattle.cdp_packets.specs.Packets.{Frame};
 ghost use Rattle.services_files.specs.CaptionChannel.{caption_channel};
 ghost use Rattle.words_files.specs.Offences.{IsFileUnder};
@@ -18,6 +20,7 @@ use crate::cells::{
 use crate::handle::Handle;
 use crate::state::State;
 use crate::told::{ARGUMENT, CLOSED, FedBytes, MEMORY, NONE, NOTHING, ROOM, tell, tell_end};
+use caption_packets::words_of_cc_data;
 use caption_streams::{Receiving, Reception};
 use std::alloc::{AllocError, Global};
 
@@ -126,6 +129,76 @@ fn feed_on(receiving: &mut Receiving, bytes: &[u8], fed: &mut FedBytes) -> u32
     ensures on { (after : List ℕ) × HasFed after (reception_of receiving.new) }
 {
     tell(receiving.feed(bytes), fed)
+}
+
+/// Feeds the words that carry triplets of cc_data, three bytes each, with the code of a rate, 1 to 8, and a counter, as
+/// `ccsuite_words_from_cc_data` makes them. 1 where it makes none, and then nothing is fed; else what `ccsuite_receiver_feed` answers.
+#[unsafe(no_mangle)]
+pub extern "C" fn ccsuite_receiver_feed_cc_data(
+    alloc: Global,
+    receiver: &mut Handle,
+    cc_data: &[u8],
+    rate: u32,
+    counter: u32,
+    fed: &mut FedBytes,
+) -> u32
+    ensures feeds { (r : ReceivingOf) (before : List ℕ) (rate_is : RateOf)
+        → state_in receiver.old ≡ Some (held.Receiving r)
+        → HasFed before (reception_of r) → IsFrame cc_data.now rate counter rate_is
+        → ReceivesAnswer before (cc_data_words cc_data.now rate_is counter)
+        r result fed.new (state_in receiver.new) }
+    ensures argument { (r : ReceivingOf) → state_in receiver.old ≡ Some (held.Receiving r)
+        → ((rate_is : RateOf) → IsFrame cc_data.now rate counter rate_is → ⊥)
+        → (result ≡ argument_code) × (fed.new ≡ read_so 0 0)
+        × (state_in receiver.new ≡ state_in receiver.old) }
+    ensures closed { HasNoReceiver (state_in receiver.old)
+        → (result ≡ closed_code) × (fed.new ≡ read_so 0 0)
+        × (state_in receiver.new ≡ state_in receiver.old) }
+{
+    match receiver.take(alloc) {
+        None => {
+            *fed = NOTHING;
+            CLOSED
+        }
+        Some(mut state) => {
+            let code = feed_cc_data(&mut state, cc_data, rate, counter, fed);
+            *receiver = Handle::of(state);
+            code
+        }
+    }
+}
+
+fn feed_cc_data(
+    state: &mut State,
+    cc_data: &[u8],
+    rate: u32,
+    counter: u32,
+    fed: &mut FedBytes,
+) -> u32
+    requires { WasFed state.old }
+    ensures feeds { (r : ReceivingOf) (before : List ℕ) (rate_is : RateOf)
+        → state.old ≡ held.Receiving r
+        → HasFed before (reception_of r) → IsFrame cc_data.now rate counter rate_is
+        → ReceivesAnswer before (cc_data_words cc_data.now rate_is counter)
+        r result fed.new (Some state.new) }
+    ensures argument { (r : ReceivingOf) → state.old ≡ held.Receiving r
+        → ((rate_is : RateOf) → IsFrame cc_data.now rate counter rate_is → ⊥)
+        → (result ≡ argument_code) × (fed.new ≡ read_so 0 0) × (state.new ≡ state.old) }
+    ensures closed { IsNoReceiver state.old
+        → (result ≡ closed_code) × (fed.new ≡ read_so 0 0) × (state.new ≡ state.old) }
+    ensures on { WasFed state.new }
+{
+    match words_of_cc_data(cc_data, rate, counter) {
+        Some(words) => feed(state, &words, fed),
+        None => {
+            *fed = NOTHING;
+            if state.receiving().is_some() {
+                ARGUMENT
+            } else {
+                CLOSED
+            }
+        }
+    }
 }
 
 /// Tells whether the words may end behind the bytes that were fed: 0. 32 where there is no open receiver, 6 where a word is refused, or

@@ -1,13 +1,16 @@
 use crate::{
-    Edge, FedBytes, FrameSeen, Handle, Shade, StartTime, TextCell, WindowCell, WindowSeen,
-    ccsuite_build, ccsuite_builder_close, ccsuite_builder_next, ccsuite_builder_open,
-    ccsuite_conceal, ccsuite_convert, ccsuite_cues, ccsuite_decode, ccsuite_dual, ccsuite_export,
-    ccsuite_export_mcc, ccsuite_import, ccsuite_import_mcc, ccsuite_insert, ccsuite_load,
-    ccsuite_pairs, ccsuite_receiver_cell, ccsuite_receiver_changes, ccsuite_receiver_close,
-    ccsuite_receiver_feed, ccsuite_receiver_finish, ccsuite_receiver_frame, ccsuite_receiver_open,
+    Edge, FedBytes, FrameSeen, Handle, PacketSeen, Shade, StartTime, TextCell, WindowCell,
+    WindowSeen, ccsuite_build, ccsuite_builder_close, ccsuite_builder_next,
+    ccsuite_builder_next_cc_data, ccsuite_builder_open, ccsuite_cc_data_from_words,
+    ccsuite_cdp_from_words, ccsuite_conceal, ccsuite_convert, ccsuite_cues, ccsuite_decode,
+    ccsuite_dual, ccsuite_export, ccsuite_export_mcc, ccsuite_import, ccsuite_import_mcc,
+    ccsuite_insert, ccsuite_load, ccsuite_pairs, ccsuite_receiver_cell, ccsuite_receiver_changes,
+    ccsuite_receiver_close, ccsuite_receiver_feed, ccsuite_receiver_feed_cc_data,
+    ccsuite_receiver_finish, ccsuite_receiver_frame, ccsuite_receiver_open,
     ccsuite_receiver_screens, ccsuite_receiver_window, ccsuite_receiver_window_cell, ccsuite_show,
     ccsuite_verifier_close, ccsuite_verifier_feed, ccsuite_verifier_open, ccsuite_verifier_verdict,
-    ccsuite_verify, ccsuite_xds, ccsuite_xds_show,
+    ccsuite_verify, ccsuite_words_from_cc_data, ccsuite_words_from_cdp, ccsuite_xds,
+    ccsuite_xds_show,
 };
 use command_base::Status;
 use reported_runs::{Report, report_of};
@@ -165,6 +168,78 @@ fn a_builder_gives_its_frames(rt: HostRuntime) {
     assert!(rt; written == 160 && out[160] == 0xAA);
     assert!(rt; ccsuite_builder_next(alloc, &mut builder, &mut [], &mut written) == 33);
     assert!(rt; written == 0);
+}
+
+const NO_PACKET: PacketSeen = PacketSeen {
+    rate: 9,
+    counter: 9,
+    flags: 9,
+    reserved: [9; 5],
+};
+
+#[test]
+fn triplets_are_read_of_words(rt: HostRuntime) {
+    let words = built(rt.alloc());
+    let mut packet = NO_PACKET;
+    let mut written = 9;
+    let mut short = [0xAA; 59];
+    assert!(rt; ccsuite_cc_data_from_words(&words, &mut short, &mut written, &mut packet) == 3);
+    assert!(rt; written == 60 && packet.rate == 9 && short[0] == 0xAA);
+    let mut cc_data = [0xAA; 61];
+    assert!(rt; ccsuite_cc_data_from_words(&words, &mut cc_data, &mut written, &mut packet) == 0);
+    assert!(rt; written == 60 && cc_data[60] == 0xAA);
+    assert!(rt; cc_data.starts_with(&[0xFC, 0x80, 0x80, 0xFD, 0x80, 0x80, 0xFA, 0, 0]));
+    assert!(rt; packet.rate == 4 && packet.counter == 0 && packet.flags == 0x43);
+    assert!(rt; ccsuite_cc_data_from_words(&cc_data, &mut short, &mut written, &mut packet) == 6);
+    assert!(rt; written == 0 && packet.rate == 4);
+}
+
+#[test]
+fn triplets_are_carried(rt: HostRuntime) {
+    let cc_data = [0xFA, 0, 0];
+    let mut words = [0xAA; 47];
+    let mut written = 9;
+    assert!(rt; ccsuite_words_from_cc_data(&cc_data, 4, 0, &mut words, &mut written) == 0);
+    assert!(rt; written == 46 && words[46] == 0xAA);
+    assert!(rt; words.starts_with(b"\0\0\x03\xFF\x03\xFF\x01\x61\x01\x01\x01\x10"));
+    assert!(rt; ccsuite_words_from_cc_data(&cc_data, 9, 0, &mut words, &mut written) == 1);
+    assert!(rt; written == 0);
+    assert!(rt; ccsuite_words_from_cc_data(&cc_data, 4, 65_536, &mut words, &mut written) == 1);
+    assert!(rt; ccsuite_words_from_cc_data(b"\xFA\0", 4, 0, &mut words, &mut written) == 1);
+}
+
+#[test]
+fn a_distribution_packet_is_read_and_carried(rt: HostRuntime) {
+    let words = built(rt.alloc());
+    let mut cdp = [0xAA; 73];
+    let mut again = [0xAA; 161];
+    let mut written = 9;
+    assert!(rt; ccsuite_cdp_from_words(&words, &mut cdp, &mut written) == 0);
+    assert!(rt;
+        written == 73 && cdp.starts_with(&[0x96, 0x69, 0x49, 0x4F, 0x43, 0, 0, 0x72, 0xF4])
+    );
+    assert!(rt; ccsuite_words_from_cdp(&cdp, &mut again, &mut written) == 0);
+    assert!(rt; written == 160 && again.starts_with(&words) && again[160] == 0xAA);
+    assert!(rt; ccsuite_words_from_cdp(LIST, &mut again, &mut written) == 6);
+    assert!(rt; ccsuite_cdp_from_words(&cdp, &mut again, &mut written) == 6);
+    assert!(rt; written == 0);
+}
+
+#[test]
+fn a_receiver_is_fed_the_triplets_of_a_builder(rt: HostRuntime) {
+    let alloc = rt.alloc();
+    let mut report = unwritten();
+    let mut builder = Handle::closed();
+    let mut receiver = opened(alloc, false);
+    let (mut out, mut written, mut fed) = ([0; 60], 9, UNFED);
+    assert!(rt; ccsuite_builder_open(alloc, LIST, &mut builder, &mut report) == 0);
+    assert!(rt; ccsuite_builder_next_cc_data(alloc, &mut builder, &mut out, &mut written) == 0);
+    assert!(rt; written == 60);
+    assert!(rt; ccsuite_receiver_feed_cc_data(alloc, &mut receiver, &out, 0, 7, &mut fed) == 1);
+    assert!(rt; fed.used == 0);
+    assert!(rt; ccsuite_receiver_feed_cc_data(alloc, &mut receiver, &out, 4, 7, &mut fed) == 0);
+    assert!(rt; fed.used == 160 && fed.ended == 2);
+    assert!(rt; ccsuite_receiver_feed_cc_data(alloc, &mut builder, &out, 4, 7, &mut fed) == 32);
 }
 
 #[test]

@@ -1,4 +1,4 @@
-use caption_streams::{Building, FeedFault, NextFrame, Receiving, Verifying};
+use caption_streams::{Building, FeedFault, FrameForm, NextFrame, Receiving, Verifying};
 use cc_base::{MemorySink, Put, Refusal, Source, Took, Why};
 use cc_receiver::{Ended, Fed};
 use command_base::{Place, Status};
@@ -42,7 +42,7 @@ fn what_changed_is_told_once(rt: HostRuntime) -> Result<(), Fail> {
     let mut receiving = Receiving::new(alloc)?;
     for frame in 0..8 {
         let mut words = [0; 160];
-        assert!(rt; building.next(&mut words) == NextFrame::Given(160));
+        assert!(rt; building.next(FrameForm::Words, &mut words) == NextFrame::Given(160));
         assert!(rt; receiving.feed(&words) == Ok(FRAME));
     }
     let mut sink = MemorySink::new(alloc, 100, Vec::new(alloc))?;
@@ -76,7 +76,7 @@ fn words_are_verified_up_to_the_first_finding(rt: HostRuntime) -> Result<(), Fai
     for frame in 0..30 {
         assert!(rt; right.verdict() == Status::Short(frame));
         let mut words = [0; 160];
-        assert!(rt; building.next(&mut words) == NextFrame::Given(160));
+        assert!(rt; building.next(FrameForm::Words, &mut words) == NextFrame::Given(160));
         assert!(rt; right.feed(&words) == Ok(FRAME));
         let answer = if frame < 8 {
             Ok(FRAME)
@@ -85,7 +85,7 @@ fn words_are_verified_up_to_the_first_finding(rt: HostRuntime) -> Result<(), Fai
         };
         assert!(rt; wrong.feed(&words) == answer);
     }
-    assert!(rt; building.next(&mut []) == NextFrame::Over);
+    assert!(rt; building.next(FrameForm::Words, &mut []) == NextFrame::Over);
     assert!(rt;
         right.verdict() == Status::Ok
             && right.finding().is_none()
@@ -100,10 +100,10 @@ fn a_frame_without_room_is_the_next_one_still(rt: HostRuntime) -> Result<(), Fai
     let alloc = rt.alloc();
     let mut building = built(alloc, LIST)?;
     let mut short = [0; 159];
-    assert!(rt; building.next(&mut short) == NextFrame::NoRoom(160));
+    assert!(rt; building.next(FrameForm::Words, &mut short) == NextFrame::NoRoom(160));
     assert!(rt; short == [0; 159]);
     let mut words = [0; 160];
-    assert!(rt; building.next(&mut words) == NextFrame::Given(160));
+    assert!(rt; building.next(FrameForm::Words, &mut words) == NextFrame::Given(160));
     assert!(rt; words.starts_with(b"\0\0\x03\xFF\x03\xFF"));
     Ok(())
 }
@@ -113,11 +113,11 @@ fn a_frame_that_is_missing_is_counted(rt: HostRuntime) -> Result<(), Fail> {
     let alloc = rt.alloc();
     let mut building = built(alloc, LIST)?;
     let mut first = [0; 160];
-    assert!(rt; building.next(&mut first) == NextFrame::Given(160));
+    assert!(rt; building.next(FrameForm::Words, &mut first) == NextFrame::Given(160));
     let mut second = [0; 160];
-    assert!(rt; building.next(&mut second) == NextFrame::Given(160));
+    assert!(rt; building.next(FrameForm::Words, &mut second) == NextFrame::Given(160));
     let mut third = [0; 160];
-    assert!(rt; building.next(&mut third) == NextFrame::Given(160));
+    assert!(rt; building.next(FrameForm::Words, &mut third) == NextFrame::Given(160));
     let mut receiving = Receiving::concealing(alloc)?;
     assert!(rt; receiving.feed(&first) == Ok(FRAME));
     assert!(rt; receiving.feed(&third) == Ok(FRAME));
