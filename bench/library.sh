@@ -1,8 +1,8 @@
 #!/usr/bin/env bash
 # The library for C beside the program, in one run: nanoseconds of processor time a frame, the least of seven turns, of `build` and of a builder's
-# frames, of `decode` and of a receiver's, of `verify` and of a verifier's, and of the same whole runs over memory. On 1,000,000 frames with one
-# caption, on 100,000 with captions all along on CC1 and CC3, and on 100,000 with a window of a service all along. Needs build/ccsuite (make),
-# build/libccsuite.a (make lib) and gcc.
+# frames, of `decode` and of a receiver's, also with all grids of each frame, of `verify` and of a verifier's, and of the same whole runs over memory.
+# On 1,000,000 frames with one caption, on 100,000 with captions all along on CC1 and CC3, and on 100,000 with a window of a service all along. Needs
+# build/ccsuite (make), build/libccsuite.a (make lib) and gcc.
 source "$(dirname "$0")/lists.sh"
 
 # captions all along: a pop-on caption on CC1 and a paint-on one on CC3 every 190 frames; and a window of service 1 every 120
@@ -75,6 +75,20 @@ static void play(void) {
         if (ccsuite_receiver_feed(&receiver, words + at, size - at, &fed) || ccsuite_receiver_changes(&receiver, out, 65536, &written)) exit(1);
 }
 
+// what a player draws of each frame: the grids of the four channels and of each window of service 1
+static ccsuite_cell cells[CCSUITE_GRID_CELLS];
+static ccsuite_window_cell wide[CCSUITE_WINDOW_CELLS];
+
+static void draw(void) {
+    ccsuite_fed fed;
+    for (size_t at = 0; at < size; at += fed.used) {
+        if (ccsuite_receiver_feed(&receiver, words + at, size - at, &fed)) exit(1);
+        for (uint32_t channel = 1; channel < 5; channel++)
+            if (ccsuite_receiver_grid(&receiver, channel, cells, CCSUITE_GRID_CELLS)) exit(1);
+        for (uint32_t id = 0; id < 8; id++) ccsuite_receiver_window_grid(&receiver, 1, id, wide, CCSUITE_WINDOW_CELLS);
+    }
+}
+
 static void check(void) {
     ccsuite_fed fed;
     for (size_t at = 0; at < size; at += fed.used)
@@ -109,6 +123,7 @@ int main(int argc, char **argv) {
     time_it("ccsuite_build", whole_build);
     time_it("ccsuite_receiver_feed", feed);
     time_it("the same, with ccsuite_receiver_changes", play);
+    time_it("the same, with all grids of a frame", draw);
     time_it("ccsuite_decode", whole_decode);
     time_it("ccsuite_verifier_feed", check);
     time_it("ccsuite_verify", whole_verify);

@@ -344,12 +344,23 @@ uint32_t ccsuite_receiver_frame(ccsuite_receiver *receiver, ccsuite_frame *frame
 /* The displayed cell of a channel, 1 CC1 to 4 CC4, at a row, 1 to 15, and a column, 0 to 31, behind the last whole frame. CLOSED, ARGUMENT. */
 uint32_t ccsuite_receiver_cell(ccsuite_receiver *receiver, uint32_t channel, uint32_t row, uint32_t column, ccsuite_cell *cell);
 
+/* All displayed cells of a channel, row by row: that at row R and column C is cells[32 * (R - 1) + C]. CLOSED, ARGUMENT; ROOM where `room`, in cells, is
+ * below CCSUITE_GRID_CELLS. They are written only where the answer is OK. */
+#define CCSUITE_GRID_CELLS 480
+uint32_t ccsuite_receiver_grid(ccsuite_receiver *receiver, uint32_t channel, ccsuite_cell *cells, size_t room);
+
 /* The window of an id, 0 to 7, of a service, 1 to 63, behind the last whole frame. CLOSED, ARGUMENT; NONE where there is none. */
 uint32_t ccsuite_receiver_window(ccsuite_receiver *receiver, uint32_t service, uint32_t id, ccsuite_window *window);
 
 /* Its cell at a row, 0 to 15, and a column, 0 to 63; empty outside of the window. CLOSED, ARGUMENT; NONE where there is no window. */
 uint32_t ccsuite_receiver_window_cell(ccsuite_receiver *receiver, uint32_t service, uint32_t id, uint32_t row, uint32_t column,
                                       ccsuite_window_cell *cell);
+
+/* All its cells, row by row: that at row R and column C is cells[columns * R + C], where the window has so many columns. CLOSED, ARGUMENT; NONE where there
+ * is no window; ROOM where `room`, in cells, is below its rows times its columns; CCSUITE_WINDOW_CELLS is always enough. They are written only where the
+ * answer is OK. */
+#define CCSUITE_WINDOW_CELLS 1024
+uint32_t ccsuite_receiver_window_grid(ccsuite_receiver *receiver, uint32_t service, uint32_t id, ccsuite_window_cell *cells, size_t room);
 
 /* Writes the text of what changed since the last call, or since the open, to the front of `out`, and its number of bytes to `*written`, which is
  * 0 elsewhere: called once a frame, all that `decode` prints of it, or the changes that `conceal` does. CLOSED, MEMORY; ROOM where the text has

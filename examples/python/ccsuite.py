@@ -210,6 +210,8 @@ _TAKEN = {
     "receiver_window_cell": [_HANDLE, c_uint32, c_uint32, c_uint32, c_uint32, POINTER(_WindowCell)],
     **dict.fromkeys("receiver_changes receiver_screens".split(), [_HANDLE, *_FRONT]),
     "receiver_feed_cc_data": [_HANDLE, *_INPUT, c_uint32, c_uint32, POINTER(_Fed)],
+    "receiver_grid": [_HANDLE, c_uint32, POINTER(_Cell), c_size_t],
+    "receiver_window_grid": [_HANDLE, c_uint32, c_uint32, POINTER(_WindowCell), c_size_t],
     "verifier_open": [*_INPUT, _HANDLE, POINTER(_Report)], "verifier_feed": [_HANDLE, *_INPUT, POINTER(_Fed)],
     "verifier_verdict": [_HANDLE, POINTER(_Report)],
     **dict.fromkeys("builder_close receiver_close verifier_close".split(), [_HANDLE]),
@@ -575,6 +577,14 @@ def _value_of(struct: ctypes.Structure, name: str) -> Any:
     return bool(value) if name in _FLAGS else value
 
 
+def _cell_of(cell: _Cell) -> Cell | None:
+    return Cell(chr(cell.ch), COLOURS[cell.colour], bool(cell.italic), bool(cell.underline)) if cell.ch else None
+
+
+def _window_cell_of(cell: _WindowCell) -> WindowCell | None:
+    return WindowCell(chr(cell.ch), *(_value_of(cell, name) for name in WindowCell._fields[1:])) if cell.ch else None
+
+
 class Receiver(_Open):
     """Words in, in any pieces; cells, windows and texts of what they show.
 
@@ -632,7 +642,13 @@ class Receiver(_Open):
         cell = _Cell()
         place = _number("row", row, 1, 15), _number("column", column, 0, 31)
         self._call("cell", _channel(channel), *place, byref(cell))
-        return Cell(chr(cell.ch), COLOURS[cell.colour], bool(cell.italic), bool(cell.underline)) if cell.ch else None
+        return _cell_of(cell)
+
+    def grid(self, channel: str) -> list[list[Cell | None]]:
+        """All displayed cells of a channel: 15 rows of 32."""
+        cells = (_Cell * (15 * 32))()
+        self._call("grid", _channel(channel), cells, len(cells))
+        return [[_cell_of(it) for it in cells[at:at + 32]] for at in range(0, len(cells), 32)]
 
     def window(self, service: int, id: int) -> Window | None:
         """The window of an id, 0 to 7, of a service, 1 to 63; None if there is none."""
@@ -646,9 +662,15 @@ class Receiver(_Open):
         """Its cell at a row, 0 to 15, and a column, 0 to 63; None if it is empty or there is no window."""
         cell = _WindowCell()
         place = _number("service", service, 1, 63), _number("id", id, 0, 7), _number("row", row, 0, 15), _number("column", column, 0, 63)
-        if self._call("window_cell", *place, byref(cell)) == Status.NONE or not cell.ch:
+        return None if self._call("window_cell", *place, byref(cell)) == Status.NONE else _window_cell_of(cell)
+
+    def window_grid(self, service: int, id: int) -> list[list[WindowCell | None]] | None:
+        """All its cells by rows; None if there is no window."""
+        window, cells = self.window(service, id), (_WindowCell * (16 * 64))()
+        if not window or self._call("window_grid", service, id, cells, len(cells)) == Status.NONE:
             return None
-        return WindowCell(chr(cell.ch), *(_value_of(cell, name) for name in WindowCell._fields[1:]))
+        starts = range(0, window.rows * window.columns, window.columns)
+        return [[_window_cell_of(it) for it in cells[at:at + window.columns]] for at in starts]
 
     def changes(self) -> str:
         """The text of what changed since the last call, or since the start: called once a frame, all that `decode` tells of it."""

@@ -157,6 +157,9 @@ class Handles(unittest.TestCase):
             self.assertIsNone(receiver.window(2, 0))
             self.assertIsNone(receiver.window_cell(1, 0, 0, 5))
             self.assertIsNone(receiver.window_cell(1, 1, 0, 0))
+            self.assertIsNone(receiver.window_grid(1, 1))
+            row, = receiver.window_grid(1, 0)
+            self.assertEqual((len(row), row[4], row[5:]), (10, cell, [None] * 5))
         self.assertEqual((window.visible, window.rows, window.columns, window.vertical, window.horizontal), (True, 1, 10, 60, 50))
         self.assertEqual((window.anchor, window.row_lock, window.fill, window.border_colour), (0, True, (0, 0, 0, 0), (0, 0, 0)))
         self.assertEqual((cell.character, cell.size, cell.foreground, cell.background), ("O", 1, (0, 2, 2, 2), (0, 0, 0, 0)))
@@ -234,11 +237,13 @@ class Packets(unittest.TestCase):
         refused(self, Status.MALFORMED, ccsuite.words_from_cdp, cdp[:-1])
 
     def test_player(self):
-        """A player is fed triplets."""
+        """A player is fed triplets, and draws whole grids."""
         with ccsuite.Builder(HELLO) as builder, ccsuite.Receiver() as receiver:
             for counter in range(8):
                 self.assertEqual(receiver.feed_cc_data(builder.next_cc_data(), ccsuite.Rate.F29_97, counter).number, counter)
-            self.assertEqual([it and it.character for it in (receiver.cell("CC1", 15, column) for column in range(3))], ["H", "I", None])
+            grid = receiver.grid("CC1")
+        self.assertEqual([len(it) for it in grid], [32] * 15)
+        self.assertEqual([it and it.character for it in grid[14][:3]], ["H", "I", None])
 
 
 class Module(unittest.TestCase):

@@ -120,6 +120,46 @@ static void receive(const uint8_t *list, size_t size, size_t frames, ccsuite_rec
     ccsuite_builder_close(&builder);
 }
 
+/* all cells of the channels, and of the windows of services 1 and 2, against those that are told one by one */
+static void grids(ccsuite_receiver *receiver) {
+    static ccsuite_cell cells[CCSUITE_GRID_CELLS + 1];
+    static ccsuite_window_cell wide[CCSUITE_WINDOW_CELLS + 1];
+    ccsuite_window window;
+    POISONED(ccsuite_cell, cell);
+    POISONED(ccsuite_window_cell, wide_cell);
+    for (uint32_t channel = 0; channel < 6; channel++) {
+        memset(cells, 0xEE, sizeof cells);
+        uint32_t code = ccsuite_receiver_grid(receiver, channel, cells, CCSUITE_GRID_CELLS - 1);
+        CHECK(code == (channel == 0 || channel == 5 ? CCSUITE_ARGUMENT : CCSUITE_ROOM) && is_poisoned((uint8_t *)cells, sizeof cells));
+        if (code == CCSUITE_ARGUMENT) continue;
+        CHECK(ccsuite_receiver_grid(receiver, channel, cells, CCSUITE_GRID_CELLS + channel % 2) == CCSUITE_OK);
+        CHECK(is_poisoned((uint8_t *)&cells[CCSUITE_GRID_CELLS], sizeof *cells));
+        for (uint32_t row = 1; row < 16; row++)
+            for (uint32_t column = 0; column < 32; column++) {
+                CHECK(ccsuite_receiver_cell(receiver, channel, row, column, &cell.it) == CCSUITE_OK);
+                CHECK(memcmp(&cell.it, &cells[32 * (row - 1) + column], sizeof cell.it) == 0);
+            }
+    }
+    for (uint32_t service = 0; service < 3; service++)
+        for (uint32_t id = 0; id < 9; id++) {
+            memset(wide, 0xEE, sizeof wide);
+            uint32_t told = ccsuite_receiver_window(receiver, service, id, &window);
+            if (told != CCSUITE_OK) {
+                CHECK(ccsuite_receiver_window_grid(receiver, service, id, wide, CCSUITE_WINDOW_CELLS) == told && is_poisoned((uint8_t *)wide, sizeof wide));
+                continue;
+            }
+            uint32_t count = (uint32_t)window.rows * window.columns;
+            CHECK(ccsuite_receiver_window_grid(receiver, service, id, wide, count - 1) == CCSUITE_ROOM && is_poisoned((uint8_t *)wide, sizeof wide));
+            CHECK(ccsuite_receiver_window_grid(receiver, service, id, wide, count + id % 2) == CCSUITE_OK);
+            CHECK(is_poisoned((uint8_t *)&wide[count], sizeof *wide));
+            for (uint32_t place = 0; place < count; place++) {
+                uint32_t row = place / window.columns, column = place % window.columns;
+                CHECK(ccsuite_receiver_window_cell(receiver, service, id, row, column, &wide_cell.it) == CCSUITE_OK);
+                CHECK(memcmp(&wide_cell.it, &wide[place], sizeof wide_cell.it) == 0);
+            }
+        }
+}
+
 /* each field of cells, windows and frames, where a call writes it */
 static void cells(const char *name) {
     size_t size;
@@ -134,6 +174,7 @@ static void cells(const char *name) {
     CHECK(ccsuite_receiver_cell(&receiver, 5, 15, 1, &cell.it) == CCSUITE_ARGUMENT && ccsuite_receiver_cell(&receiver, 1, 16, 1, &cell.it) == 1);
     CHECK(ccsuite_receiver_cell(&other, 1, 15, 1, &cell.it) == CCSUITE_CLOSED && IS_POISONED(cell));
     CHECK(ccsuite_receiver_cell(&receiver, 1, 15, 1, &cell.it) == CCSUITE_OK);
+    grids(&receiver);
     CHECK(cell.it.ch == 'I' && cell.it.colour == 5 && cell.it.italic == 0 && cell.it.underline == 1);
     CHECK(ccsuite_receiver_cell(&receiver, 2, 15, 1, &cell.it) == CCSUITE_OK && cell.it.ch == 0 && cell.it.colour == 0 && cell.it.italic == 0);
     CHECK(ccsuite_receiver_cell(&receiver, 0, 15, 1, &cell.it) == CCSUITE_ARGUMENT && ccsuite_receiver_cell(&receiver, 5, 15, 1, &cell.it) == 1);
@@ -176,6 +217,7 @@ static void cells(const char *name) {
     CHECK(ccsuite_receiver_window(&receiver, 3, 1, &window.it) == CCSUITE_NONE && ccsuite_receiver_window(&receiver, 0, 1, &window.it) == 1);
     CHECK(ccsuite_receiver_window(&receiver, 64, 1, &window.it) == 1 && ccsuite_receiver_window(&receiver, 1, 8, &window.it) == 1);
     CHECK(ccsuite_receiver_window(&receiver, 257, 1, &window.it) == 1 && window.it.rows == 2);
+    grids(&receiver);
     CHECK(ccsuite_receiver_window_cell(&receiver, 1, 1, 0, 1, &wide.it) == CCSUITE_OK);
     CHECK(wide.it.ch == 'R' && wide.it.size == 1 && wide.it.font == 2 && wide.it.tag == 0 && wide.it.offset == 1 && wide.it.edge == 0);
     CHECK(wide.it.italic == 0 && wide.it.underline == 0);
@@ -252,8 +294,11 @@ static void layouts(void) {
         CHECK(ccsuite_receiver_window_cell(&receiver, 1, n + 1, n == 0 ? 4 : 0, n == 0 ? 7 : 2, &cell.it) == CCSUITE_OK);
         CHECK(cell.it.ch == CELLS[n].ch && memcmp(&cell.it.size, &CELLS[n].size, 18) == 0);
         CHECK_BEHIND(cell);
+        grids(&receiver);
     }
     ccsuite_receiver_close(&receiver);
+    ccsuite_cell none;
+    CHECK(ccsuite_receiver_grid(&receiver, 1, &none, 1) == CCSUITE_CLOSED);
 }
 
 /* handles that are closed, used behind their close, closed twice, and opened in vain */

@@ -3,6 +3,7 @@ ghost use Rattle.cc_receiver.specs.declared.receiver.Ended.TheVariants as ended;
 ghost use Rattle.cdp_packets.specs.Packets.{Frame};
 ghost use Rattle.dtvcc_services.specs.Numbers.{IsService};
 ghost use Rattle.dtvcc_windows.specs.Objects.{is_live, window_of};
+ghost use Rattle.line21_screen.specs.Objects.{grid_in};
 ghost use Rattle.cc_receiver.specs.CaptionChannel.{caption_channel};
 ghost use Rattle.words_files.specs.Offences.{IsFileUnder, IsMalformed};
 
@@ -81,6 +82,14 @@ impl Reception {
             Reception::Plain(receiver) => receiver.cell(chan, row, col),
             Reception::Concealing(concealer) => concealer.cell(chan, row, col),
         }
+    }
+
+    /// The displayed memory of a channel behind the last whole frame (CTA-608-E; 47 CFR 79.101).
+    pub fn displayed(&self, chan: Chan) -> &Memory
+        ensures { (frames : List Frame) → StandsBehind frames self.now
+            → grid_in result.now ≡ grids_behind self.now frames chan }
+    {
+        Grids::displayed(self, chan)
     }
 
     /// The window of an id of a service, 1 to 63, behind the last whole frame, where there is one (CTA-708-E).

@@ -1,4 +1,5 @@
 pub mod FedLemmas
+pub mod GridLemmas
 pub mod LooseValues
 pub mod PacketLemmas
 pub mod PointerValues

@@ -2,6 +2,7 @@ pub mod Builders
 pub mod Calls
 pub mod Cells
 pub mod Codes
+pub mod Grids
 pub mod Handles
 pub mod Held
 pub mod Packets

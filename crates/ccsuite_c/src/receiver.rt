@@ -8,6 +8,7 @@ ghost use Rattle.cdp_packets.specs.Packets.{Frame};
 ghost use Rattle.services_files.specs.CaptionChannel.{caption_channel};
 ghost use Rattle.words_files.specs.Offences.{IsFileUnder};
 ghost use Rattle.ccsuite_c.specs.Codes.{argument_code, closed_code};
+ghost use Rattle.ccsuite_c.specs.Grids.{GridAnswer, WindowGridAnswer};
 ghost use Rattle.ccsuite_c.specs.Handles.{HasNoReceiver, StaysSo, state_in};
 ghost use Rattle.ccsuite_c.specs.Receivers.{BeginsReceiving, CellAnswer, ChangesAnswer, EndAnswer, FrameAnswer, HandsOut, HasCellPlace, HasWindowPlace, OpenedReceiver, ReceivesAnswer, ScreensAnswer, WindowAnswer, WindowCellAnswer};
 ghost use Rattle.ccsuite_c.specs.States.{IsNoReceiver, WasFed};
@@ -17,6 +18,7 @@ ghost use Rattle.ccsuite_c.specs.declared.state.State.TheVariants as held;
 use crate::cells::{
     TextCell, WindowCell, WindowSeen, chan_of, text_cell, window_cell, window_seen,
 };
+use crate::grids::{GRID_CELLS, cell_count, tell_grid, tell_window_grid};
 use crate::handle::Handle;
 use crate::state::State;
 use crate::told::{ARGUMENT, CLOSED, FedBytes, MEMORY, NONE, NOTHING, ROOM, tell, tell_end};
@@ -371,6 +373,60 @@ fn tell_cell(reception: &Reception, channel: u32, row: u32, column: u32, seen: &
     0
 }
 
+/// Tells all displayed cells of a channel, 1 to 4, row by row: 0. 32 where there is no open receiver, 1 where there is no such channel, 3
+/// where there is room for fewer than 480 cells.
+#[unsafe(no_mangle)]
+pub extern "C" fn ccsuite_receiver_grid(
+    alloc: Global,
+    receiver: &mut Handle,
+    channel: u32,
+    cells: &mut [TextCell],
+) -> u32
+    ensures grid { (r : ReceivingOf) (frames : List Frame)
+        → state_in receiver.old ≡ Some (held.Receiving r)
+        → StandsBehind frames (reception_of r)
+        → GridAnswer (reception_of r) frames channel result cells.old cells.new }
+    ensures closed { HasNoReceiver (state_in receiver.old)
+        → (result ≡ closed_code) × (cells.new ≡ cells.old) }
+    ensures kept { state_in receiver.new ≡ state_in receiver.old }
+{
+    match receiver.take(alloc) {
+        None => CLOSED,
+        Some(state) => {
+            let code = grid(&state, channel, cells);
+            *receiver = Handle::of(state);
+            code
+        }
+    }
+}
+
+fn grid(state: &State, channel: u32, cells: &mut [TextCell]) -> u32
+    ensures grid { (r : ReceivingOf) (frames : List Frame) → state.now ≡ held.Receiving r
+        → StandsBehind frames (reception_of r)
+        → GridAnswer (reception_of r) frames channel result cells.old cells.new }
+    ensures closed { IsNoReceiver state.now
+        → (result ≡ closed_code) × (cells.new ≡ cells.old) }
+{
+    match state.receiving() {
+        Some(receiving) => tell_channel(receiving.reception(), channel, cells),
+        None => CLOSED,
+    }
+}
+
+fn tell_channel(reception: &Reception, channel: u32, cells: &mut [TextCell]) -> u32
+    ensures { (frames : List Frame) → StandsBehind frames reception.now
+        → GridAnswer reception.now frames channel result cells.old cells.new }
+{
+    let Some(chan) = chan_of(channel) else {
+        return ARGUMENT;
+    };
+    if cells.len() < GRID_CELLS {
+        return ROOM;
+    }
+    tell_grid(reception.displayed(chan), cells);
+    0
+}
+
 /// Tells the window of an id, 0 to 7, of a service, 1 to 63: 0. 32 where there is no open receiver, 1 where there is no such place, 35
 /// where there is no window.
 #[unsafe(no_mangle)]
@@ -524,6 +580,80 @@ fn tell_window_cell(
         None => NONE,
         Some(window) => {
             *seen = window_cell(window.cell(row as u8, column as u8));
+            0
+        }
+    }
+}
+
+/// Tells all cells of the window of an id, 0 to 7, of a service, 1 to 63, row by row: 0. 32 where there is no open receiver, 1 where there
+/// is no such place, 35 where there is no window, 3 where there is room for fewer cells than its rows times its columns.
+#[unsafe(no_mangle)]
+pub extern "C" fn ccsuite_receiver_window_grid(
+    alloc: Global,
+    receiver: &mut Handle,
+    service: u32,
+    id: u32,
+    cells: &mut [WindowCell],
+) -> u32
+    ensures grid { (r : ReceivingOf) (frames : List Frame)
+        → state_in receiver.old ≡ Some (held.Receiving r)
+        → StandsBehind frames (reception_of r)
+        → HasWindowPlace service id
+        → WindowGridAnswer ((service_behind
+        (reception_of r) frames service).screen.windows id) result cells.old cells.new }
+    ensures argument { (HasWindowPlace service id → ⊥) → (r : ReceivingOf)
+        → state_in receiver.old ≡ Some (held.Receiving r)
+        → (result ≡ argument_code) × (cells.new ≡ cells.old) }
+    ensures closed { HasNoReceiver (state_in receiver.old)
+        → (result ≡ closed_code) × (cells.new ≡ cells.old) }
+    ensures kept { state_in receiver.new ≡ state_in receiver.old }
+{
+    match receiver.take(alloc) {
+        None => CLOSED,
+        Some(state) => {
+            let code = window_grid(&state, service, id, cells);
+            *receiver = Handle::of(state);
+            code
+        }
+    }
+}
+
+fn window_grid(state: &State, service: u32, id: u32, cells: &mut [WindowCell]) -> u32
+    ensures grid { (r : ReceivingOf) (frames : List Frame) → state.now ≡ held.Receiving r
+        → StandsBehind frames (reception_of r)
+        → HasWindowPlace service id
+        → WindowGridAnswer ((service_behind
+        (reception_of r) frames service).screen.windows id) result cells.old cells.new }
+    ensures argument { (HasWindowPlace service id → ⊥) → (r : ReceivingOf)
+        → state.now ≡ held.Receiving r
+        → (result ≡ argument_code) × (cells.new ≡ cells.old) }
+    ensures closed { IsNoReceiver state.now
+        → (result ≡ closed_code) × (cells.new ≡ cells.old) }
+{
+    match state.receiving() {
+        Some(receiving) => tell_all_of(receiving.reception(), service, id, cells),
+        None => CLOSED,
+    }
+}
+
+fn tell_all_of(reception: &Reception, service: u32, id: u32, cells: &mut [WindowCell]) -> u32
+    ensures grid { (frames : List Frame) → StandsBehind frames reception.now
+        → HasWindowPlace service id
+        → WindowGridAnswer ((service_behind
+        reception.now frames service).screen.windows id) result cells.old cells.new }
+    ensures argument { (HasWindowPlace service id → ⊥)
+        → (result ≡ argument_code) × (cells.new ≡ cells.old) }
+{
+    if service < 1 || service > 63 || id > 7 {
+        return ARGUMENT;
+    }
+    match reception.window(service as u8, id as u8) {
+        None => NONE,
+        Some(window) => {
+            if cells.len() < cell_count(window) {
+                return ROOM;
+            }
+            tell_window_grid(window, cells);
             0
         }
     }

@@ -6,11 +6,11 @@ use crate::{
     ccsuite_dual, ccsuite_export, ccsuite_export_mcc, ccsuite_import, ccsuite_import_mcc,
     ccsuite_insert, ccsuite_load, ccsuite_pairs, ccsuite_receiver_cell, ccsuite_receiver_changes,
     ccsuite_receiver_close, ccsuite_receiver_feed, ccsuite_receiver_feed_cc_data,
-    ccsuite_receiver_finish, ccsuite_receiver_frame, ccsuite_receiver_open,
-    ccsuite_receiver_screens, ccsuite_receiver_window, ccsuite_receiver_window_cell, ccsuite_show,
-    ccsuite_verifier_close, ccsuite_verifier_feed, ccsuite_verifier_open, ccsuite_verifier_verdict,
-    ccsuite_verify, ccsuite_words_from_cc_data, ccsuite_words_from_cdp, ccsuite_xds,
-    ccsuite_xds_show,
+    ccsuite_receiver_finish, ccsuite_receiver_frame, ccsuite_receiver_grid, ccsuite_receiver_open,
+    ccsuite_receiver_screens, ccsuite_receiver_window, ccsuite_receiver_window_cell,
+    ccsuite_receiver_window_grid, ccsuite_show, ccsuite_verifier_close, ccsuite_verifier_feed,
+    ccsuite_verifier_open, ccsuite_verifier_verdict, ccsuite_verify, ccsuite_words_from_cc_data,
+    ccsuite_words_from_cdp, ccsuite_xds, ccsuite_xds_show,
 };
 use command_base::Status;
 use reported_runs::{Report, report_of};
@@ -390,6 +390,26 @@ fn a_window_is_told_or_that_there_is_none(rt: HostRuntime) {
     assert!(rt; ccsuite_receiver_window_cell(alloc, &mut receiver, 1, 0, 15, 63, &mut cell) == 35);
     assert!(rt; ccsuite_receiver_window_cell(alloc, &mut receiver, 1, 0, 16, 0, &mut cell) == 1);
     assert!(rt; window.rows == 9 && cell.ch == 9);
+}
+
+#[test]
+fn all_cells_are_told_or_that_there_is_too_little_room(rt: HostRuntime) {
+    let alloc = rt.alloc();
+    let mut receiver = opened(alloc, false);
+    let mut few = [NO_CELL; 479];
+    assert!(rt; ccsuite_receiver_grid(alloc, &mut receiver, 1, &mut few) == 3);
+    assert!(rt; few[0].ch == 9);
+    let mut cells = [NO_CELL; 481];
+    assert!(rt; ccsuite_receiver_grid(alloc, &mut receiver, 5, &mut cells) == 1);
+    assert!(rt; cells[0].ch == 9);
+    assert!(rt; ccsuite_receiver_grid(alloc, &mut receiver, 4, &mut cells) == 0);
+    assert!(rt; cells[0].ch == 0 && cells[479].ch == 0 && cells[480].ch == 9);
+    let mut wide = [NO_WINDOW_CELL; 4];
+    assert!(rt; ccsuite_receiver_window_grid(alloc, &mut receiver, 1, 0, &mut wide) == 35);
+    assert!(rt; ccsuite_receiver_window_grid(alloc, &mut receiver, 0, 0, &mut wide) == 1);
+    assert!(rt; wide[0].ch == 9);
+    ccsuite_receiver_close(alloc, &mut receiver);
+    assert!(rt; ccsuite_receiver_grid(alloc, &mut receiver, 1, &mut cells) == 32);
 }
 
 #[test]
