@@ -75,6 +75,52 @@ enum {
     CCSUITE_NONE = 35         /* there is no such frame or window */
 };
 
+/* The reasons: report.why, fed.why. `ccsuite_reason_of` tells what each says. */
+enum {
+    /* words and packets */
+    CCSUITE_WHY_OVERRUN = 1,
+    CCSUITE_WHY_IDENTIFIER = 2,
+    CCSUITE_WHY_LENGTH = 3,
+    CCSUITE_WHY_RATE = 4,
+    CCSUITE_WHY_SECTION = 5,
+    CCSUITE_WHY_COUNT = 6,
+    CCSUITE_WHY_COUNTER = 7,
+    CCSUITE_WHY_SUM = 8,
+    CCSUITE_WHY_HIGH_BITS = 9,
+    CCSUITE_WHY_WORD_PARITY = 10,
+    CCSUITE_WHY_FLAG = 11,
+    CCSUITE_WHY_ANC_SUM = 12,
+    CCSUITE_WHY_TRUNCATED = 13,
+    /* SCC and MCC files */
+    CCSUITE_WHY_NO_SUCH_TIME = 14,
+    CCSUITE_WHY_HEADER = 15,
+    CCSUITE_WHY_SCC_SYNTAX = 16,
+    CCSUITE_WHY_BACKWARDS = 17,
+    /* cue lists */
+    CCSUITE_WHY_FIELD = 20,
+    CCSUITE_WHY_NO_CODE = 21,
+    CCSUITE_WHY_ORDER = 22,
+    CCSUITE_WHY_OVERLAP = 23,
+    CCSUITE_WHY_CLASH = 24,
+    CCSUITE_WHY_UNHIDDEN = 25,
+    CCSUITE_WHY_WINDOW_BUSY = 26,
+    CCSUITE_WHY_DELAY_COVERS = 27,
+    CCSUITE_WHY_SHARE = 28,
+    CCSUITE_WHY_PAST_END = 29,
+    CCSUITE_WHY_OFF_SLOT = 31,
+    CCSUITE_WHY_FIELD_CLASH = 32,
+    CCSUITE_WHY_OTHER_LIST = 33,
+    CCSUITE_WHY_MCC_SYNTAX = 34,
+    /* findings */
+    CCSUITE_WHY_COUNTER_JUMP = 40,
+    CCSUITE_WHY_WRONG_COUNT = 41,
+    CCSUITE_WHY_BUFFER_FULL = 42,
+    CCSUITE_WHY_GRID_DIFFERS = 43,
+    CCSUITE_WHY_WRONG_RATE = 44,
+    CCSUITE_WHY_TWO_PAIRS = 45,
+    CCSUITE_WHY_EIGHT_BITS = 46
+};
+
 /* Frame rates, by their codes in distribution packets (SMPTE ST 334-2). */
 enum {
     CCSUITE_RATE_23_976 = 1,
@@ -108,6 +154,15 @@ typedef struct ccsuite_report {
     uint64_t wanted;   /* of ROOM: how many bytes the whole output has */
     char text[160];    /* the line of the status, with its line end, and behind it zeros; empty of OK */
 } ccsuite_report;
+
+/* A reason, as texts with zeros after them. */
+typedef struct ccsuite_reason {
+    char name[32];      /* as the program writes it, as `GridDiffers` */
+    char sentence[128]; /* what is wrong, with a full stop */
+} ccsuite_reason;
+
+/* Tells the reason of a number. ARGUMENT where there is none, and then the struct is as it was. */
+uint32_t ccsuite_reason_of(uint32_t why, ccsuite_reason *reason);
 
 /* ---- Whole runs ------------------------------------------------------------------------------------------------------------------------
  * Each reads its input to the end, writes to the front of `out`, fills the report and returns report->status. Where it isn't OK, the bytes

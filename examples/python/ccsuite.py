@@ -28,9 +28,9 @@ from ctypes import POINTER, byref, c_bool, c_char, c_size_t, c_uint8, c_uint32, 
 from typing import Any, NamedTuple, TypeVar, Union
 
 __all__ = [
-    "Builder", "Cell", "Error", "Frame", "Packet", "Rate", "Receiver", "Status", "Verifier", "Window", "WindowCell", "build",
+    "Builder", "Cell", "Error", "Frame", "Packet", "Rate", "Reason", "Receiver", "Status", "Verifier", "Window", "WindowCell", "build",
     "cc_data_from_words", "cdp_from_words", "conceal", "convert", "cues", "decode", "dual", "export_mcc", "export_scc", "import_mcc", "import_scc",
-    "insert", "load", "pairs", "show", "verify", "words_from_cc_data", "words_from_cdp", "xds", "xds_show",
+    "insert", "load", "pairs", "reason_of", "show", "verify", "words_from_cc_data", "words_from_cdp", "xds", "xds_show",
 ]
 
 LIBRARY = os.environ.get("CCSUITE_LIBRARY", "libccsuite.so.0")
@@ -79,12 +79,6 @@ class Rate(enum.IntEnum):
     F60 = 8
 
 
-# The names of the reasons by their numbers, as the manual has them.
-REASONS = dict(enumerate("Overrun Identifier Length Rate Section Count Counter Sum HighBits WordParity Flag AncSum Truncated".split(), 1))
-REASONS |= dict(enumerate("NoSuchTime Header SccSyntax Backwards".split(), 14))
-REASONS |= dict(enumerate("Field NoCode Order Overlap Clash Unhidden WindowBusy DelayCovers Share PastEnd".split(), 20))
-REASONS |= dict(enumerate("OffSlot FieldClash OtherList MccSyntax".split(), 31))
-REASONS |= dict(enumerate("CounterJump WrongCount BufferFull GridDiffers WrongRate TwoPairs EightBits".split(), 40))
 LIMITS = ("", "Bytes", "Frames", "Cues", "Packet", "Day")
 MISFITS = ("", "Rate", "Count", "One", "Two", "Many", "Changed")
 COLOURS = ("white", "green", "blue", "cyan", "red", "yellow", "magenta")
@@ -104,6 +98,10 @@ class _Report(ctypes.Structure):
 
 class _Fed(ctypes.Structure):
     _fields_ = [("used", c_size_t), ("place", c_uint64), ("ended", c_uint32), ("why", c_uint32)]
+
+
+class _Reason(ctypes.Structure):
+    _fields_ = [("name", c_char * 32), ("sentence", c_char * 128)]
 
 
 class _Packet(ctypes.Structure):
@@ -148,6 +146,7 @@ class Error(Exception):
 
     status: Status
     reason: str | None  # of MALFORMED, RULE, DIFFERS, MISFIT and LIMIT, by the manual's name
+    sentence: str | None  # of MALFORMED, RULE and DIFFERS: what is wrong
     place: int | None  # of MALFORMED: the byte at fault
     record: int | None  # of MALFORMED in a cue list
     field: int | None  # its field
@@ -165,15 +164,16 @@ class Error(Exception):
         self.status = Status(status)
         super().__init__(text or self.status.name.lower().replace("_", " "))
         self.written = written
-        for name in ("reason", "place", "record", "field", "cue", "other", "packet", "frame", "channel", "service", "expected", "seen"):
+        for name in ("reason", "sentence", "place", "record", "field", "cue", "other", "packet", "frame", "channel", "service", "expected", "seen"):
             setattr(self, name, fields.get(name))
 
 
 def _error_of(report: _Report, written: bytes = b"") -> Error:
     status, fields = Status(report.status), {}
-    names = {Status.LIMIT: (LIMITS, report.limit), Status.MISFIT: (MISFITS, report.misfit)}.get(status, (REASONS, report.why))
-    if names[1]:
-        fields["reason"] = names[0][names[1]]
+    if status in (Status.LIMIT, Status.MISFIT):
+        fields["reason"] = LIMITS[report.limit] if status == Status.LIMIT else MISFITS[report.misfit]
+    elif report.why:
+        fields |= reason_of(report.why)._asdict()
     if status == Status.MALFORMED and not report.record:
         fields["place"] = report.place
     if status in (Status.DIFFERS, Status.MISFIT, Status.SHORT):
@@ -196,7 +196,7 @@ _OUTPUT = [c_void_p, c_size_t, POINTER(_Report)]
 _HANDLE = POINTER(_Handle)
 _FRONT = [c_void_p, c_size_t, POINTER(c_size_t)]
 _TAKEN = {
-    "words_from_cc_data": [*_INPUT, c_uint32, c_uint32, *_FRONT],
+    "reason_of": [c_uint32, POINTER(_Reason)], "words_from_cc_data": [*_INPUT, c_uint32, c_uint32, *_FRONT],
     "cc_data_from_words": [*_INPUT, *_FRONT, POINTER(_Packet)],
     **dict.fromkeys("words_from_cdp cdp_from_words".split(), [*_INPUT, *_FRONT]),
     **dict.fromkeys("pairs build cues decode conceal xds_show convert import import_mcc".split(), [*_INPUT, *_OUTPUT]),
@@ -278,7 +278,22 @@ def _run(name: str, *given: Text, more: tuple[Any, ...] = ()) -> bytes:
     return written
 
 
-# ---- Packets of one frame ------------------------------------------------------------------------------------------------------------------
+# ---- Reasons, and packets of one frame -----------------------------------------------------------------------------------------------------
+
+
+class Reason(NamedTuple):
+    """Why something is refused: its name, as the program writes it, and a sentence on it."""
+
+    reason: str
+    sentence: str
+
+
+def reason_of(number: int) -> Reason:
+    """The reason of a number."""
+    reason = _Reason()
+    if _CALLS["reason_of"](number, byref(reason)) != Status.OK:
+        raise ValueError(f"{number} is no reason's number")
+    return Reason(reason.name.decode(), reason.sentence.decode())
 
 
 class Packet(NamedTuple):
@@ -629,8 +644,8 @@ class Receiver(_Open):
 
     @staticmethod
     def _refused(fed: _Fed) -> Error:
-        reason = REASONS[fed.why]
-        return Error(Status.MALFORMED, f"malformed at byte {fed.place}: {reason}", reason=reason, place=fed.place)
+        reason = reason_of(fed.why)
+        return Error(Status.MALFORMED, f"malformed at byte {fed.place}: {reason.reason}", place=fed.place, **reason._asdict())
 
     def frame(self) -> Frame | None:
         """The last whole frame; None before the first one."""

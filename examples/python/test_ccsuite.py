@@ -88,6 +88,7 @@ class Refusals(unittest.TestCase):
         words = (LISTS / "damaged.words").read_bytes()
         error = refused(self, Status.MALFORMED, ccsuite.decode, words)
         self.assertEqual((str(error), error.reason, error.place), ("malformed at byte 1628: Count", "Count", 1628))
+        self.assertTrue(error.sentence.endswith("."))
         self.assertEqual(error.written, b"frame 7\nCC1 1\n15 0 white HI\n")
         error = refused(self, Status.MALFORMED, ccsuite.decode, b"\1")
         self.assertEqual((error.reason, error.place), ("Truncated", 1))
@@ -249,7 +250,8 @@ class Packets(unittest.TestCase):
 class Module(unittest.TestCase):
     def test_reasons(self):
         wanted = "Overrun Truncated NoSuchTime Backwards Field Order PastEnd OffSlot MccSyntax CounterJump EightBits"
-        self.assertEqual([ccsuite.REASONS[it] for it in (1, 13, 14, 17, 20, 22, 29, 31, 34, 40, 46)], wanted.split())
+        self.assertRaises(ValueError, ccsuite.reason_of, 18)
+        self.assertEqual([ccsuite.reason_of(it).reason for it in (1, 13, 14, 17, 20, 22, 29, 31, 34, 40, 46)], wanted.split())
 
     def test_no_library(self):
         ran = subprocess.run([sys.executable, "-Bc", "import ccsuite"], cwd=pathlib.Path(__file__).parent, env={"CCSUITE_LIBRARY": "/none.so"},

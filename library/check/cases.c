@@ -356,6 +356,34 @@ static void closed(void) {
     }
 }
 
+/* each reason by its number */
+static void reasons(void) {
+    static const char *const NAMES[] = {
+        NULL, "Overrun", "Identifier", "Length", "Rate", "Section", "Count", "Counter", "Sum", "HighBits", "WordParity", "Flag", "AncSum",
+        "Truncated", "NoSuchTime", "Header", "SccSyntax", "Backwards", NULL, NULL, "Field", "NoCode", "Order", "Overlap", "Clash", "Unhidden",
+        "WindowBusy", "DelayCovers", "Share", "PastEnd", NULL, "OffSlot", "FieldClash", "OtherList", "MccSyntax", NULL, NULL, NULL, NULL, NULL,
+        "CounterJump", "WrongCount", "BufferFull", "GridDiffers", "WrongRate", "TwoPairs", "EightBits", NULL,
+    };
+    POISONED(ccsuite_reason, reason);
+    for (uint32_t n = 0; n < sizeof NAMES / sizeof *NAMES; n++) {
+        memset(&reason, 0xEE, sizeof reason);
+        if (!NAMES[n]) {
+            CHECK(ccsuite_reason_of(n, &reason.it) == CCSUITE_ARGUMENT && IS_POISONED(reason));
+            continue;
+        }
+        CHECK(ccsuite_reason_of(n, &reason.it) == CCSUITE_OK && strcmp(reason.it.name, NAMES[n]) == 0);
+        CHECK(reason.it.name[31] == 0 && reason.it.sentence[127] == 0 && reason.it.sentence[strlen(reason.it.sentence) - 1] == '.');
+        CHECK_BEHIND(reason);
+    }
+    CHECK(ccsuite_reason_of(CCSUITE_WHY_GRID_DIFFERS, &reason.it) == CCSUITE_OK && strcmp(reason.it.name, "GridDiffers") == 0);
+    CHECK(strcmp(reason.it.sentence, "What is shown isn't what was authored.") == 0);
+    CHECK(ccsuite_reason_of(CCSUITE_WHY_TRUNCATED, &reason.it) == CCSUITE_OK && strcmp(reason.it.name, "Truncated") == 0);
+    CHECK(ccsuite_reason_of(CCSUITE_WHY_FIELD, &reason.it) == CCSUITE_OK && strcmp(reason.it.name, "Field") == 0);
+    CHECK(ccsuite_reason_of(CCSUITE_WHY_MCC_SYNTAX, &reason.it) == CCSUITE_OK && strcmp(reason.it.name, "MccSyntax") == 0);
+    CHECK(ccsuite_reason_of(CCSUITE_WHY_EIGHT_BITS, &reason.it) == CCSUITE_OK && strcmp(reason.it.name, "EightBits") == 0);
+    CHECK(ccsuite_reason_of(276, &reason.it) == CCSUITE_ARGUMENT);
+}
+
 /* one frame's packets: what is written is read again, whole and bit by bit */
 static void packets(void) {
     uint8_t words[CCSUITE_PACKET_ROOM], again[CCSUITE_PACKET_ROOM], cc_data[CCSUITE_CC_DATA_ROOM] = {0}, cdp[CCSUITE_CDP_ROOM], triplets[96];
@@ -542,6 +570,7 @@ int main(int argc, char **argv) {
     layouts();
     closed();
     packets();
+    reasons();
     texts();
     threads();
     refusals();

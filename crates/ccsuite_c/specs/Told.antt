@@ -1,8 +1,9 @@
 -- Believed in part: the library's answers stand on some of these definitions.
--- What C is told of bytes that were fed, and of a frame that was asked for.
-use Rattle.std.specs.Prelude.{◌≡◌, ℕ, Result, Ok, Err}
+-- What C is told of bytes that were fed, of a frame that was asked for, and of a reason.
+use Rattle.std.specs.Prelude.{◌≡◌, ◌⊎◌, ℕ, Result, Ok, Err}
 use Rattle.cc_base.specs.Why.{reason_number}
 use Rattle.cc_base.specs.declared.refusal.Refusal.{Refusal}
+use Rattle.cc_base.specs.declared.why.Why.{Why}
 use Rattle.cc_receiver.specs.declared.receiver.Ended.{Ended}
 use Rattle.cc_receiver.specs.declared.receiver.Ended.TheVariants as ended
 use Rattle.cc_receiver.specs.declared.receiver.Fed.{Fed}
@@ -10,7 +11,9 @@ use Rattle.caption_streams.specs.declared.building.NextFrame.{NextFrame}
 use Rattle.caption_streams.specs.declared.building.NextFrame.TheVariants as asked
 use Rattle.caption_streams.specs.declared.fault.FeedFault.{FeedFault}
 use Rattle.caption_streams.specs.declared.fault.FeedFault.TheVariants as fault
-use Rattle.ccsuite_c.specs.Codes.{end_code, found_code, full_code, refused_code, room_code}
+use Rattle.reported_runs.specs.Reasons.{reason_told}
+use Rattle.reported_runs.specs.declared.reason.Reason.{Reason}
+use Rattle.ccsuite_c.specs.Codes.{argument_code, end_code, found_code, full_code, refused_code, room_code}
 use Rattle.ccsuite_c.specs.declared.told.FedBytes.{FedBytes}
 
 abbrev pub ended_number : Ended → ℕ
@@ -43,3 +46,9 @@ abbrev pub TellsNext : NextFrame → ℕ → ℕ → Type 0
 TellsNext (asked.Given bytes) code count = (code ≡ 0) × (count ≡ bytes)
 TellsNext (asked.NoRoom bytes) code count = (code ≡ room_code) × (count ≡ bytes)
 TellsNext asked.Over code count = (code ≡ end_code) × (count ≡ 0)
+
+-- of a reason's number: its texts, or that no reason has it
+abbrev pub ReasonAnswer : ℕ → ℕ → Reason → Reason → Type 0
+ReasonAnswer number code old new =
+    ((code ≡ 0) × ((why : Why) × (reason_number why ≡ number) × (new ≡ reason_told why)))
+    ⊎ ((code ≡ argument_code) × ((why : Why) → reason_number why ≡ number → ⊥) × (new ≡ old))

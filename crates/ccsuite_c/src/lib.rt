@@ -2,6 +2,7 @@
 //! what each call does, and what its caller owes.
 #![tactic(auto)]
 
+pub use crate::about::ccsuite_reason_of;
 pub use crate::builder::{
     ccsuite_builder_close, ccsuite_builder_next, ccsuite_builder_next_cc_data, ccsuite_builder_open,
 };
@@ -28,6 +29,7 @@ pub use crate::verifier::{
     ccsuite_verifier_close, ccsuite_verifier_feed, ccsuite_verifier_open, ccsuite_verifier_verdict,
 };
 
+mod about;
 mod builder;
 mod calls;
 mod cells;

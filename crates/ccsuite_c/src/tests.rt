@@ -4,16 +4,17 @@ use crate::{
     ccsuite_builder_next_cc_data, ccsuite_builder_open, ccsuite_cc_data_from_words,
     ccsuite_cdp_from_words, ccsuite_conceal, ccsuite_convert, ccsuite_cues, ccsuite_decode,
     ccsuite_dual, ccsuite_export, ccsuite_export_mcc, ccsuite_import, ccsuite_import_mcc,
-    ccsuite_insert, ccsuite_load, ccsuite_pairs, ccsuite_receiver_cell, ccsuite_receiver_changes,
-    ccsuite_receiver_close, ccsuite_receiver_feed, ccsuite_receiver_feed_cc_data,
-    ccsuite_receiver_finish, ccsuite_receiver_frame, ccsuite_receiver_grid, ccsuite_receiver_open,
-    ccsuite_receiver_screens, ccsuite_receiver_window, ccsuite_receiver_window_cell,
-    ccsuite_receiver_window_grid, ccsuite_show, ccsuite_verifier_close, ccsuite_verifier_feed,
-    ccsuite_verifier_open, ccsuite_verifier_verdict, ccsuite_verify, ccsuite_words_from_cc_data,
-    ccsuite_words_from_cdp, ccsuite_xds, ccsuite_xds_show,
+    ccsuite_insert, ccsuite_load, ccsuite_pairs, ccsuite_reason_of, ccsuite_receiver_cell,
+    ccsuite_receiver_changes, ccsuite_receiver_close, ccsuite_receiver_feed,
+    ccsuite_receiver_feed_cc_data, ccsuite_receiver_finish, ccsuite_receiver_frame,
+    ccsuite_receiver_grid, ccsuite_receiver_open, ccsuite_receiver_screens,
+    ccsuite_receiver_window, ccsuite_receiver_window_cell, ccsuite_receiver_window_grid,
+    ccsuite_show, ccsuite_verifier_close, ccsuite_verifier_feed, ccsuite_verifier_open,
+    ccsuite_verifier_verdict, ccsuite_verify, ccsuite_words_from_cc_data, ccsuite_words_from_cdp,
+    ccsuite_xds, ccsuite_xds_show,
 };
 use command_base::Status;
-use reported_runs::{Report, report_of};
+use reported_runs::{Reason, Report, report_of};
 use std::alloc::Global;
 
 /// One frame with nothing.
@@ -240,6 +241,23 @@ fn a_receiver_is_fed_the_triplets_of_a_builder(rt: HostRuntime) {
     assert!(rt; ccsuite_receiver_feed_cc_data(alloc, &mut receiver, &out, 4, 7, &mut fed) == 0);
     assert!(rt; fed.used == 160 && fed.ended == 2);
     assert!(rt; ccsuite_receiver_feed_cc_data(alloc, &mut builder, &out, 4, 7, &mut fed) == 32);
+}
+
+#[test]
+fn a_reason_is_told_by_its_number(rt: HostRuntime) {
+    let mut reason = Reason {
+        name: [9; 32],
+        sentence: [9; 128],
+    };
+    assert!(rt; ccsuite_reason_of(30, &mut reason) == 1);
+    assert!(rt; reason.name == [9; 32]);
+    assert!(rt; ccsuite_reason_of(43, &mut reason) == 0);
+    assert!(rt; reason.name.starts_with(b"GridDiffers\0"));
+    assert!(rt;
+        reason
+            .sentence
+            .starts_with(b"What is shown isn't what was authored.\0")
+    );
 }
 
 #[test]

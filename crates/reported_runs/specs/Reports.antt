@@ -44,12 +44,12 @@ line_of status.Usage = codes "argument out of range\n"
 line_of status.WriteFault = codes "too little room\n"
 line_of answer = status_line answer
 
--- the front of a line that has room, and zeros behind it
-abbrev pub padded : List ℕ → List ℕ
-padded line = line ++ drop (length line) (replicate 160 0)
+-- a text in so much room, and zeros after it
+abbrev pub padded : ℕ → List ℕ → List ℕ
+padded room text = text ++ drop (length text) (replicate room 0)
 
 unfoldable pub text_of : Status → List ℕ
-text_of answer = padded (take 159 (line_of answer))
+text_of answer = padded 160 (take 159 (line_of answer))
 
 -- a status's code and its line, and no number that it carries
 abbrev pub blank : Status → ℕ → Report

@@ -3,6 +3,7 @@
 #![tactic(auto)]
 
 pub use crate::line::text_of;
+pub use crate::reason::{Reason, reason_of, reason_told};
 pub use crate::report::{Report, TEXT, report_of};
 pub use crate::run::run_in_memory;
 pub use crate::slice_source::SliceSource;
@@ -10,6 +11,7 @@ pub use ccsuite_cli::{Command, MOST_LOAD};
 
 mod line;
 mod output;
+mod reason;
 mod report;
 mod run;
 mod slice_source;

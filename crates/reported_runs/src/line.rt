@@ -52,14 +52,14 @@ pub fn text_of(status: Status) -> [u8; TEXT]
     padded(line.bytes.as_slice())
 }
 
-// A line, and behind it zeros.
-fn padded(line: &[u8]) -> [u8; TEXT]
-    requires { length line.now ≤ 159 }
-    ensures { result ≡ padded line.now }
+/// A text that has room, and zeros after it.
+pub(crate) fn padded<const SIZE: usize>(text: &[u8]) -> [u8; SIZE]
+    requires { length text.now ≤ SIZE }
+    ensures { result ≡ padded SIZE text.now }
 {
-    let mut text = [0; TEXT];
-    text[..line.len()].copy_from_slice(line);
-    text
+    let mut all = [0; SIZE];
+    all[..text.len()].copy_from_slice(text);
+    all
 }
 
 // Puts the line of a status.

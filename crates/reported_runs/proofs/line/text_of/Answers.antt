@@ -12,5 +12,5 @@ returns c =
     let few : length line.bytes.items ≤ 159 = subst (λ (l : List ℕ). length l ≤ 159) c.as_slice.ensures.value c.as_slice.ensures.fits in
     let puts : Puts (Some []) (Some line.bytes.items) c.put_line.result (line_of c.args.status) =
     subst (λ (l : List ℕ). Puts (Some l) (Some line.bytes.items) c.put_line.result (line_of c.args.status)) c.new.ensures c.put_line.ensures.bytes in
-    c.padded.ensures ∙ ap padded (c.as_slice.ensures.value
+    c.padded.ensures ∙ ap (padded 160) (c.as_slice.ensures.value
     ∙ sym (front (line_of c.args.status) line.bytes.items line.faults c.put_line.result puts c.put_line.ensures.cause line.full few))
