@@ -14,7 +14,7 @@
  *   MCC files are texts. Frames, cues and bytes are counted in whole numbers, as each field says; there are no times in seconds.
  *
  * ANSWERS
- *   Every call but `_close` returns one of the codes below, and says beside it which can come. Codes 0 to 13 are the exit
+ *   Every call but `_close` and `ccsuite_version` returns one of the codes below, and says beside it which can come. Codes 0 to 13 are the exit
  *   statuses of the program. Where a call answers with a report, the report has the numbers of its status, and its line, which the program writes
  *   to its standard error; of CCSUITE_ARGUMENT it is `argument out of range`, of CCSUITE_ROOM `too little room`.
  *
@@ -41,8 +41,13 @@
 #ifndef CCSUITE_H
 #define CCSUITE_H
 
-/* The version of this header. If a program would have to be compiled anew, the library has another soname: libccsuite.so.0 here. */
+/* The version of this header; `ccsuite_version` tells that of the library that is there when the program runs. MINOR rises with a call or a field that
+ * is new, PATCH with neither. If a program would have to be compiled anew, MAJOR rises, and the library has another soname: libccsuite.so.0 here. Structs
+ * that the library writes have fields `reserved`, which are 0, so that a field may come without that. */
 #define CCSUITE_VERSION "1.0"
+#define CCSUITE_VERSION_MAJOR 1
+#define CCSUITE_VERSION_MINOR 0
+#define CCSUITE_VERSION_PATCH 0
 
 #include <stdbool.h>
 #include <stddef.h>
@@ -152,6 +157,7 @@ typedef struct ccsuite_report {
     uint64_t place;    /* of MALFORMED: the byte at fault, counted from 0 */
     uint64_t written;  /* the number of bytes that stand at the front of `out` */
     uint64_t wanted;   /* of ROOM: how many bytes the whole output has */
+    uint64_t reserved[7];
     char text[160];    /* the line of the status, with its line end, and behind it zeros; empty of OK */
 } ccsuite_report;
 
@@ -163,6 +169,9 @@ typedef struct ccsuite_reason {
 
 /* Tells the reason of a number. ARGUMENT where there is none, and then the struct is as it was. */
 uint32_t ccsuite_reason_of(uint32_t why, ccsuite_reason *reason);
+
+/* The version of the library: 65,536 MAJOR + 256 MINOR + PATCH. */
+uint32_t ccsuite_version(void);
 
 /* ---- Whole runs ------------------------------------------------------------------------------------------------------------------------
  * Each reads its input to the end, writes to the front of `out`, fills the report and returns report->status. Where it isn't OK, the bytes
@@ -310,6 +319,7 @@ typedef struct ccsuite_fed {
     uint64_t place; /* of MALFORMED: the refused word's first byte, counted from the first byte that was ever fed; or how many were fed */
     uint32_t ended; /* 0: no packet ended. 1: one that isn't of captions. 2: one of captions, and with it a frame */
     uint32_t why;   /* of MALFORMED: the number of the reason, 1 to 12; 13 where the words are cut short, of `_finish` */
+    uint64_t reserved[2];
 } ccsuite_fed;
 
 /* The last whole frame. */
@@ -317,6 +327,7 @@ typedef struct ccsuite_frame {
     uint64_t number;  /* how many frames came before it; of a concealing receiver, its number by the frames' counters */
     uint64_t missing; /* how many frames are missing right before it, 0 to 65,535; 0 of one that doesn't conceal */
     uint32_t frames;  /* the number of whole frames so far */
+    uint32_t reserved[3];
 } ccsuite_frame;
 
 /* A cell of a channel; all zeros where it is empty. */
@@ -325,6 +336,7 @@ typedef struct ccsuite_cell {
     uint8_t colour;    /* 0 white, 1 green, 2 blue, 3 cyan, 4 red, 5 yellow, 6 magenta */
     uint8_t italic;    /* 0 or 1 */
     uint8_t underline; /* 0 or 1 */
+    uint8_t reserved;
 } ccsuite_cell;
 
 /* Colours of windows (CTA-708-E): red, green and blue from 0 to 3; opacity 0 solid, 1 flash, 2 translucent, 3 transparent. */
@@ -359,6 +371,7 @@ typedef struct ccsuite_window {
     uint8_t border;           /* 0 none, 1 raised, 2 depressed, 3 uniform, 4 left shadow, 5 right shadow; at most 7 */
     ccsuite_shade fill;
     ccsuite_edge border_colour;
+    uint8_t reserved[7];
 } ccsuite_window;
 
 /* A cell of a window; all zeros where it is empty (CTA-708-E, SetPenAttributes and SetPenColor). */
@@ -374,6 +387,7 @@ typedef struct ccsuite_window_cell {
     ccsuite_shade foreground;
     ccsuite_shade background;
     ccsuite_edge edge_colour;
+    uint8_t reserved[2];
 } ccsuite_window_cell;
 
 /* Opens it, reset before the first frame; with `conceals` for a line that loses frames: it is then reset where the frames' counters jump, and

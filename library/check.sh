@@ -153,6 +153,12 @@ for names in given archived told; do
 done
 echo "$(wc -l < library/calls) calls; the archive needs: $undefined"
 
+# The version is one: of the package, the header and the library.
+version=$(sed -n '1s/.*(\(.*\)).*/\1/p' package/changes)
+grep -qx "#define CCSUITE_VERSION \"$version\"" library/ccsuite.h || fail "the header isn't of version $version"
+numbers=$(printf 'CCSUITE_VERSION_MAJOR.CCSUITE_VERSION_MINOR.CCSUITE_VERSION_PATCH' | gcc -E -P -include library/ccsuite.h - | tail -1 | tr -d ' ')
+[ "$numbers" = "$version" ] || [ "$numbers" = "$version.0" ] || fail "the header's numbers are $numbers, and the version is $version"
+
 objdump -p build/libccsuite.so | grep -q 'SONAME *libccsuite\.so\.0$' || fail 'the shared library has another soname'
 
 # From Python.

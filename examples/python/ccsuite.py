@@ -30,7 +30,7 @@ from typing import Any, NamedTuple, TypeVar, Union
 __all__ = [
     "Builder", "Cell", "Error", "Frame", "Packet", "Rate", "Reason", "Receiver", "Status", "Verifier", "Window", "WindowCell", "build",
     "cc_data_from_words", "cdp_from_words", "conceal", "convert", "cues", "decode", "dual", "export_mcc", "export_scc", "import_mcc", "import_scc",
-    "insert", "load", "pairs", "reason_of", "show", "verify", "words_from_cc_data", "words_from_cdp", "xds", "xds_show",
+    "insert", "load", "pairs", "reason_of", "show", "verify", "version", "words_from_cc_data", "words_from_cdp", "xds", "xds_show",
 ]
 
 LIBRARY = os.environ.get("CCSUITE_LIBRARY", "libccsuite.so.0")
@@ -93,11 +93,12 @@ _REPORT_NUMBERS = "status why limit misfit record field cue other packet frame c
 
 
 class _Report(ctypes.Structure):
-    _fields_ = [*((name, c_uint32) for name in _REPORT_NUMBERS), ("place", c_uint64), ("written", c_uint64), ("wanted", c_uint64), ("text", c_char * 160)]
+    _fields_ = [*((name, c_uint32) for name in _REPORT_NUMBERS), ("place", c_uint64), ("written", c_uint64), ("wanted", c_uint64),
+                ("reserved", c_uint64 * 7), ("text", c_char * 160)]
 
 
 class _Fed(ctypes.Structure):
-    _fields_ = [("used", c_size_t), ("place", c_uint64), ("ended", c_uint32), ("why", c_uint32)]
+    _fields_ = [("used", c_size_t), ("place", c_uint64), ("ended", c_uint32), ("why", c_uint32), ("reserved", c_uint64 * 2)]
 
 
 class _Reason(ctypes.Structure):
@@ -117,11 +118,11 @@ class _Time(ctypes.Structure):
 
 
 class _Frame(ctypes.Structure):
-    _fields_ = [("number", c_uint64), ("missing", c_uint64), ("frames", c_uint32)]
+    _fields_ = [("number", c_uint64), ("missing", c_uint64), ("frames", c_uint32), ("reserved", c_uint32 * 3)]
 
 
 class _Cell(ctypes.Structure):
-    _fields_ = [("ch", c_uint32), ("colour", c_uint8), ("italic", c_uint8), ("underline", c_uint8)]
+    _fields_ = [("ch", c_uint32), ("colour", c_uint8), ("italic", c_uint8), ("underline", c_uint8), ("reserved", c_uint8)]
 
 
 _SHADE, _EDGE = c_uint8 * 4, c_uint8 * 3
@@ -131,12 +132,12 @@ _WINDOW_NUMBERS = (
 
 
 class _Window(ctypes.Structure):
-    _fields_ = [*((name, c_uint8) for name in _WINDOW_NUMBERS), ("fill", _SHADE), ("border_colour", _EDGE)]
+    _fields_ = [*((name, c_uint8) for name in _WINDOW_NUMBERS), ("fill", _SHADE), ("border_colour", _EDGE), ("reserved", c_uint8 * 7)]
 
 
 class _WindowCell(ctypes.Structure):
     _fields_ = [("ch", c_uint32), *((name, c_uint8) for name in "size font tag offset italic underline edge".split()),
-                ("foreground", _SHADE), ("background", _SHADE), ("edge_colour", _EDGE)]
+                ("foreground", _SHADE), ("background", _SHADE), ("edge_colour", _EDGE), ("reserved", c_uint8 * 2)]
 
 
 class Error(Exception):
@@ -196,7 +197,7 @@ _OUTPUT = [c_void_p, c_size_t, POINTER(_Report)]
 _HANDLE = POINTER(_Handle)
 _FRONT = [c_void_p, c_size_t, POINTER(c_size_t)]
 _TAKEN = {
-    "reason_of": [c_uint32, POINTER(_Reason)], "words_from_cc_data": [*_INPUT, c_uint32, c_uint32, *_FRONT],
+    "version": [], "reason_of": [c_uint32, POINTER(_Reason)], "words_from_cc_data": [*_INPUT, c_uint32, c_uint32, *_FRONT],
     "cc_data_from_words": [*_INPUT, *_FRONT, POINTER(_Packet)],
     **dict.fromkeys("words_from_cdp cdp_from_words".split(), [*_INPUT, *_FRONT]),
     **dict.fromkeys("pairs build cues decode conceal xds_show convert import import_mcc".split(), [*_INPUT, *_OUTPUT]),
@@ -278,7 +279,7 @@ def _run(name: str, *given: Text, more: tuple[Any, ...] = ()) -> bytes:
     return written
 
 
-# ---- Reasons, and packets of one frame -----------------------------------------------------------------------------------------------------
+# ---- The library, its reasons, and packets of one frame -----------------------------------------------------------------------------------
 
 
 class Reason(NamedTuple):
@@ -286,6 +287,12 @@ class Reason(NamedTuple):
 
     reason: str
     sentence: str
+
+
+def version() -> tuple[int, int, int]:
+    """The library's version."""
+    number = _CALLS["version"]()
+    return number >> 16, number >> 8 & 0xFF, number & 0xFF
 
 
 def reason_of(number: int) -> Reason:

@@ -2,6 +2,7 @@
 
 import gc
 import pathlib
+import re
 import subprocess
 import sys
 import threading
@@ -248,6 +249,10 @@ class Packets(unittest.TestCase):
 
 
 class Module(unittest.TestCase):
+    def test_version(self):
+        header = (LISTS.parent / "library" / "ccsuite.h").read_text()
+        self.assertEqual(ccsuite.version(), tuple(int(re.search(f"VERSION_{it} ([0-9]+)", header)[1]) for it in ("MAJOR", "MINOR", "PATCH")))
+
     def test_reasons(self):
         wanted = "Overrun Truncated NoSuchTime Backwards Field Order PastEnd OffSlot MccSyntax CounterJump EightBits"
         self.assertRaises(ValueError, ccsuite.reason_of, 18)

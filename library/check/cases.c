@@ -270,12 +270,12 @@ static void layouts(void) {
     static const uint8_t SECOND[] = {0x9A, 0x12, 0x05, 0xC8, 0x10, 0x02, 0x00, 0x97, 0xE1, 0x8D, 0x27, 0x39,
                                      0x90, 0x25, 0x6E, 0x91, 0xC6, 0x1B, 0x27, 0x92, 0x00, 0x02, 0x7F};
     static const ccsuite_window WINDOWS[] = {
-        {1, 11, 40, 0, 1, 5, 6, 1, 97, 98, 2, 1, 3, 1, 2, 1, 9, 5, {1, 2, 3, 0}, {3, 1, 2}},
-        {0, 1, 3, 1, 0, 2, 1, 0, 5, 200, 3, 2, 1, 0, 1, 2, 3, 2, {3, 2, 0, 1}, {0, 3, 1}},
+        {1, 11, 40, 0, 1, 5, 6, 1, 97, 98, 2, 1, 3, 1, 2, 1, 9, 5, {1, 2, 3, 0}, {3, 1, 2}, {0}},
+        {0, 1, 3, 1, 0, 2, 1, 0, 5, 200, 3, 2, 1, 0, 1, 2, 3, 2, {3, 2, 0, 1}, {0, 3, 1}, {0}},
     };
     static const ccsuite_window_cell CELLS[] = {
-        {'Q', 2, 4, 11, 2, 1, 0, 3, {1, 2, 3, 0}, {2, 3, 0, 1}, {2, 3, 1}},
-        {0x266A, 1, 6, 2, 1, 0, 1, 5, {3, 0, 1, 2}, {0, 1, 2, 3}, {2, 1, 3}},
+        {'Q', 2, 4, 11, 2, 1, 0, 3, {1, 2, 3, 0}, {2, 3, 0, 1}, {2, 3, 1}, {0}},
+        {0x266A, 1, 6, 2, 1, 0, 1, 5, {3, 0, 1, 2}, {0, 1, 2, 3}, {2, 1, 3}, {0}},
     };
     ccsuite_receiver receiver = {0};
     POISONED(ccsuite_fed, fed);
@@ -292,7 +292,7 @@ static void layouts(void) {
         CHECK(memcmp(&window.it, &WINDOWS[n], sizeof(ccsuite_window)) == 0);
         CHECK_BEHIND(window);
         CHECK(ccsuite_receiver_window_cell(&receiver, 1, n + 1, n == 0 ? 4 : 0, n == 0 ? 7 : 2, &cell.it) == CCSUITE_OK);
-        CHECK(cell.it.ch == CELLS[n].ch && memcmp(&cell.it.size, &CELLS[n].size, 18) == 0);
+        CHECK(cell.it.ch == CELLS[n].ch && memcmp(&cell.it.size, &CELLS[n].size, 20) == 0);
         CHECK_BEHIND(cell);
         grids(&receiver);
     }
@@ -307,7 +307,7 @@ static void closed(void) {
     ccsuite_receiver receiver = {0};
     ccsuite_verifier verifier = {0};
     ccsuite_report r;
-    ccsuite_fed fed = {7, 7, 7, 7};
+    ccsuite_fed fed = {7, 7, 7, 7, {7, 7}};
     ccsuite_frame frame;
     ccsuite_cell cell;
     ccsuite_window window;
@@ -356,7 +356,7 @@ static void closed(void) {
     }
 }
 
-/* each reason by its number */
+/* each reason by its number, and the version */
 static void reasons(void) {
     static const char *const NAMES[] = {
         NULL, "Overrun", "Identifier", "Length", "Rate", "Section", "Count", "Counter", "Sum", "HighBits", "WordParity", "Flag", "AncSum",
@@ -382,6 +382,7 @@ static void reasons(void) {
     CHECK(ccsuite_reason_of(CCSUITE_WHY_MCC_SYNTAX, &reason.it) == CCSUITE_OK && strcmp(reason.it.name, "MccSyntax") == 0);
     CHECK(ccsuite_reason_of(CCSUITE_WHY_EIGHT_BITS, &reason.it) == CCSUITE_OK && strcmp(reason.it.name, "EightBits") == 0);
     CHECK(ccsuite_reason_of(276, &reason.it) == CCSUITE_ARGUMENT);
+    CHECK(ccsuite_version() == (CCSUITE_VERSION_MAJOR << 16 | CCSUITE_VERSION_MINOR << 8 | CCSUITE_VERSION_PATCH));
 }
 
 /* one frame's packets: what is written is read again, whole and bit by bit */

@@ -33,7 +33,7 @@ static void put_frame(ccsuite_receiver *receiver, bool conceals) {
 static int receive(const uint8_t *words, size_t size, size_t piece, bool conceals) {
     ccsuite_receiver receiver = {0};
     ccsuite_fed fed;
-    ccsuite_frame frame = {0, 0, 0};
+    ccsuite_frame frame;
     if (ccsuite_receiver_open(&receiver, conceals) != CCSUITE_OK) return 99;
     for (size_t at = 0; at < size; at += fed.used) {
         size_t next = piece && piece < size - at ? piece : size - at;
@@ -48,7 +48,7 @@ static int receive(const uint8_t *words, size_t size, size_t piece, bool conceal
     }
     uint32_t code = ccsuite_receiver_finish(&receiver, &fed);
     if (fed.used != 0 || fed.ended != 0) return 99;
-    ccsuite_receiver_frame(&receiver, &frame);
+    if (ccsuite_receiver_frame(&receiver, &frame) != CCSUITE_OK) frame.frames = 0;
     if (code == CCSUITE_OK) printf("frames %u\n", frame.frames);
     ccsuite_receiver_close(&receiver);
     return (int)code;

@@ -1,6 +1,6 @@
 -- Believed: the library's answers stand on these definitions.
 -- What C is told of cells and windows.
-use Rattle.std.specs.Prelude.{ℕ, Bool, true, false, Option, Some, None, if◌then◌else◌, ◌==◌}
+use Rattle.std.specs.Prelude.{ℕ, Bool, true, false, Option, Some, None, if◌then◌else◌, ◌==◌, replicate}
 use Rattle.dtvcc_codes.specs.declared.pens.Fill.{Fill}
 use Rattle.dtvcc_codes.specs.declared.pens.Rgb.{Rgb}
 use Rattle.dtvcc_windows.specs.Windows.{WindowState}
@@ -36,9 +36,15 @@ colour_number colour.Magenta = 6
 
 -- a cell of a channel, if there is a character
 abbrev pub text_cell : Option Cell → TextCell
-text_cell None = record { ch = 0; colour = 0; italic = 0; underline = 0 }
+text_cell None = record { ch = 0; colour = 0; italic = 0; underline = 0; reserved = 0 }
 text_cell (Some cell) =
-    record { ch = cell.ch; colour = colour_number cell.style.colour; italic = bit cell.style.italic; underline = bit cell.style.underline }
+    record {
+      ch = cell.ch;
+      colour = colour_number cell.style.colour;
+      italic = bit cell.style.italic;
+      underline = bit cell.style.underline;
+      reserved = 0;
+    }
 
 abbrev pub shade_of : Fill → Shade
 shade_of fill = record { opacity = fill.opacity; red = fill.r; green = fill.g; blue = fill.b }
@@ -67,6 +73,7 @@ window_cell None =
       foreground = no_shade;
       background = no_shade;
       edge_colour = no_edge;
+      reserved = replicate 2 0;
     }
 window_cell (Some cell) =
     record {
@@ -81,6 +88,7 @@ window_cell (Some cell) =
       foreground = shade_of cell.colors.fg;
       background = shade_of cell.colors.bg;
       edge_colour = edge_of cell.colors.edge;
+      reserved = replicate 2 0;
     }
 
 -- a window
@@ -107,4 +115,5 @@ window_seen w =
       border = w.attributes.border_kind;
       fill = shade_of w.attributes.fill;
       border_colour = edge_of w.attributes.border;
+      reserved = replicate 7 0;
     }

@@ -1,6 +1,6 @@
 -- Believed: the library's answers stand on these definitions.
 -- Receivers, as C holds them.
-use Rattle.std.specs.Prelude.{◌≡◌, ◌⊎◌, ◌<◌, ◌≤◌, ◌++◌, ℕ, Bool, true, false, List, [], length, drop, Option, Some, None, Result}
+use Rattle.std.specs.Prelude.{◌≡◌, ◌⊎◌, ◌<◌, ◌≤◌, ◌++◌, ℕ, Bool, true, false, List, [], length, drop, replicate, Option, Some, None, Result}
 use Rattle.caption_streams.specs.Receivings.{last_screens, reception_of}
 use Rattle.caption_streams.specs.Receptions.{AnswersFed, HasFed, IsConcealing, IsPlain, frame_total, grids_behind, missing_behind, number_behind, screens_behind}
 use Rattle.caption_streams.specs.declared.fault.FeedFault.{FeedFault}
@@ -65,10 +65,14 @@ EndAnswer bytes code told =
     ⊎ ((code ≡ refused_code)
     × ((refusal : Refusal) × IsMalformed caption_channel bytes refusal × (told ≡ refused_so refusal.place (reason_number refusal.why))))
 
+-- the number of the last frame, how many are missing before it, and how many there are
+abbrev pub frame_seen : ℕ → ℕ → ℕ → FrameSeen
+frame_seen number missing count = record { number = number; missing = missing; frames = count; reserved = replicate 3 0 }
+
 -- the last of frames is told, or there is none, and nothing is told
 abbrev pub FrameAnswer : Reception → List Frame → ℕ → FrameSeen → FrameSeen → Type 0
 FrameAnswer reception frames code old new =
-    ((code ≡ 0) × (new ≡ record { number = number_behind reception frames; missing = missing_behind reception frames; frames = frame_total reception }))
+    ((code ≡ 0) × (new ≡ frame_seen (number_behind reception frames) (missing_behind reception frames) (frame_total reception)))
     ⊎ ((code ≡ none_code) × (frame_total reception ≡ 0) × (new ≡ old))
 
 -- no channel has this number, or no cell stands there

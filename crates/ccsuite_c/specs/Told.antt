@@ -1,6 +1,6 @@
 -- Believed in part: the library's answers stand on some of these definitions.
 -- What C is told of bytes that were fed, of a frame that was asked for, and of a reason.
-use Rattle.std.specs.Prelude.{◌≡◌, ◌⊎◌, ℕ, Result, Ok, Err}
+use Rattle.std.specs.Prelude.{◌≡◌, ◌⊎◌, ℕ, Result, Ok, Err, replicate}
 use Rattle.cc_base.specs.Why.{reason_number}
 use Rattle.cc_base.specs.declared.refusal.Refusal.{Refusal}
 use Rattle.cc_base.specs.declared.why.Why.{Why}
@@ -23,11 +23,11 @@ ended_number ended.Caption = 2
 
 -- so many bytes were read, and a packet ended so, or none
 abbrev pub read_so : ℕ → ℕ → FedBytes
-read_so count ending = record { used = count; place = 0; ended = ending; why = 0 }
+read_so count ending = record { used = count; place = 0; ended = ending; why = 0; reserved = replicate 2 0 }
 
 -- nothing was read, as this word is refused for this reason
 abbrev pub refused_so : ℕ → ℕ → FedBytes
-refused_so byte reason = record { used = 0; place = byte; ended = 0; why = reason }
+refused_so byte reason = record { used = 0; place = byte; ended = 0; why = reason; reserved = replicate 2 0 }
 
 -- the code that is answered, and what is told beside it
 abbrev pub TellsFed : Result Fed FeedFault → ℕ → FedBytes → Type 0

@@ -18,6 +18,8 @@ pub struct TextCell {
     pub italic: u8,
     /// 1 where it is underlined.
     pub underline: u8,
+    /// Zero, for a field to come.
+    pub reserved: u8,
 }
 
 /// A colour with its opacity (CTA-708-E, SetPenColor and SetWindowAttributes).
@@ -72,6 +74,8 @@ pub struct WindowCell {
     pub background: Shade,
     /// The colour of its edges.
     pub edge_colour: Edge,
+    /// Zeros, for fields to come.
+    pub reserved: [u8; 2],
 }
 
 /// A window of a service (CTA-708-E, DefineWindow and SetWindowAttributes).
@@ -118,6 +122,8 @@ pub struct WindowSeen {
     pub fill: Shade,
     /// The border's colour.
     pub border_colour: Edge,
+    /// Zeros, for fields to come.
+    pub reserved: [u8; 7],
 }
 
 /// What is told of a cell of a channel.
@@ -130,12 +136,14 @@ pub(crate) fn text_cell(cell: Option<Cell>) -> TextCell
             colour: 0,
             italic: 0,
             underline: 0,
+            reserved: 0,
         },
         Some(cell) => TextCell {
             ch: u32::from(cell.ch),
             colour: colour_number(cell.style.colour),
             italic: u8::from(cell.style.italic),
             underline: u8::from(cell.style.underline),
+            reserved: 0,
         },
     }
 }
@@ -192,6 +200,7 @@ pub(crate) fn window_cell(cell: Option<DCell>) -> WindowCell
             foreground: NO_SHADE,
             background: NO_SHADE,
             edge_colour: NO_EDGE,
+            reserved: [0; 2],
         },
         Some(cell) => WindowCell {
             ch: u32::from(cell.ch),
@@ -205,6 +214,7 @@ pub(crate) fn window_cell(cell: Option<DCell>) -> WindowCell
             foreground: shade_of(cell.colors.fg),
             background: shade_of(cell.colors.bg),
             edge_colour: edge_of(cell.colors.edge),
+            reserved: [0; 2],
         },
     }
 }
@@ -250,6 +260,7 @@ pub(crate) fn window_seen(window: &Window) -> WindowSeen
         border: attributes.border_kind,
         fill: shade_of(attributes.fill),
         border_colour: edge_of(attributes.border),
+        reserved: [0; 7],
     }
 }
 

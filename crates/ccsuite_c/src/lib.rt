@@ -2,7 +2,7 @@
 //! what each call does, and what its caller owes.
 #![tactic(auto)]
 
-pub use crate::about::ccsuite_reason_of;
+pub use crate::about::{ccsuite_reason_of, ccsuite_version};
 pub use crate::builder::{
     ccsuite_builder_close, ccsuite_builder_next, ccsuite_builder_next_cc_data, ccsuite_builder_open,
 };

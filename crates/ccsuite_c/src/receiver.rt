@@ -36,6 +36,8 @@ pub struct FrameSeen {
     pub missing: u64,
     /// The number of whole frames.
     pub frames: u32,
+    /// Zeros, for fields to come.
+    pub reserved: [u32; 3],
 }
 
 /// Opens a receiver that was fed nothing, of words of which frames may be missing where `conceals` says so; what the handle held before is
@@ -314,6 +316,7 @@ fn tell_frame(reception: &Reception, seen: &mut FrameSeen) -> u32
         number: reception.number(),
         missing: reception.missing(),
         frames,
+        reserved: [0; 3],
     };
     0
 }

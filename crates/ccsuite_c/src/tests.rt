@@ -10,8 +10,8 @@ use crate::{
     ccsuite_receiver_grid, ccsuite_receiver_open, ccsuite_receiver_screens,
     ccsuite_receiver_window, ccsuite_receiver_window_cell, ccsuite_receiver_window_grid,
     ccsuite_show, ccsuite_verifier_close, ccsuite_verifier_feed, ccsuite_verifier_open,
-    ccsuite_verifier_verdict, ccsuite_verify, ccsuite_words_from_cc_data, ccsuite_words_from_cdp,
-    ccsuite_xds, ccsuite_xds_show,
+    ccsuite_verifier_verdict, ccsuite_verify, ccsuite_version, ccsuite_words_from_cc_data,
+    ccsuite_words_from_cdp, ccsuite_xds, ccsuite_xds_show,
 };
 use command_base::Status;
 use reported_runs::{Reason, Report, report_of};
@@ -258,6 +258,7 @@ fn a_reason_is_told_by_its_number(rt: HostRuntime) {
             .sentence
             .starts_with(b"What is shown isn't what was authored.\0")
     );
+    assert!(rt; ccsuite_version() == 65_536);
 }
 
 #[test]
@@ -280,6 +281,7 @@ const UNFED: FedBytes = FedBytes {
     place: 9,
     ended: 9,
     why: 9,
+    reserved: [9; 2],
 };
 
 const NO_CELL: TextCell = TextCell {
@@ -287,6 +289,7 @@ const NO_CELL: TextCell = TextCell {
     colour: 9,
     italic: 9,
     underline: 9,
+    reserved: 9,
 };
 
 #[test]
@@ -325,6 +328,7 @@ fn a_receiver_is_read(rt: HostRuntime) {
         number: 9,
         missing: 9,
         frames: 9,
+        reserved: [9; 3],
     };
     let mut cell = NO_CELL;
     assert!(rt; ccsuite_receiver_frame(alloc, &mut receiver, &mut frame) == 35);
@@ -381,6 +385,7 @@ const NO_WINDOW: WindowSeen = WindowSeen {
     border: 9,
     fill: NO_SHADE,
     border_colour: NO_EDGE,
+    reserved: [9; 7],
 };
 
 const NO_WINDOW_CELL: WindowCell = WindowCell {
@@ -395,6 +400,7 @@ const NO_WINDOW_CELL: WindowCell = WindowCell {
     foreground: NO_SHADE,
     background: NO_SHADE,
     edge_colour: NO_EDGE,
+    reserved: [9; 2],
 };
 
 #[test]

@@ -46,6 +46,8 @@ pub struct FedBytes {
     pub ended: u32,
     /// The number of the reason for which a word is refused, 1 to 12, or the words are cut short, 13.
     pub why: u32,
+    /// Zeros, for fields to come.
+    pub reserved: [u64; 2],
 }
 
 /// Nothing read, and nothing met.
@@ -54,6 +56,7 @@ pub(crate) const NOTHING: FedBytes = FedBytes {
     place: 0,
     ended: 0,
     why: 0,
+    reserved: [0; 2],
 };
 
 /// Tells what came of bytes that were fed: 0; 6, where a word is refused; 9, where something was found before; 34, where no more frames
@@ -113,6 +116,7 @@ fn tell_refusal(refusal: Refusal, fed: &mut FedBytes) -> u32
         place: refusal.place,
         ended: 0,
         why: u32::from(refusal.why.number()),
+        reserved: [0; 2],
     };
     REFUSED
 }

@@ -23,6 +23,7 @@ const NOTHING: Report = Report {
     place: 0,
     written: 0,
     wanted: 0,
+    reserved: [0; 7],
     text: [0; TEXT],
 };
 

@@ -72,6 +72,7 @@ blank answer count =
       place = 0;
       written = count;
       wanted = 0;
+      reserved = replicate 7 0;
       text = text_of answer;
     }
 

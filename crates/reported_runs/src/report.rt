@@ -49,6 +49,8 @@ pub struct Report {
     pub written: u64,
     /// How many bytes the whole output has, where it has more than there is room for.
     pub wanted: u64,
+    /// Zeros, for fields to come.
+    pub reserved: [u64; 7],
     /// The line of the status, and behind it zeros: what the program writes to its error output.
     pub text: [u8; TEXT],
 }
@@ -108,6 +110,7 @@ fn blank(status: Status, written: u64) -> Report
         place: 0,
         written,
         wanted: 0,
+        reserved: [0; 7],
         text: text_of(status),
     }
 }
