@@ -13,6 +13,8 @@ mod lists;
 #[cfg(test)]
 mod load_list;
 #[cfg(test)]
+mod one_cue;
+#[cfg(test)]
 mod overlaid_frames;
 #[cfg(test)]
 mod records;
