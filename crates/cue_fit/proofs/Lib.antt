@@ -7,5 +7,7 @@ pub mod PlannedLemmas
 pub mod TailLemmas
 pub mod NearLemmas
 pub mod ShortLemmas
+pub mod FrontEventLemmas
+pub mod FrontPlanLemmas
 pub mod FormedLemmas
 pub mod DecidedLemmas

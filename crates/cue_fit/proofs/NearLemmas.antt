@@ -1,22 +1,21 @@
 -- Whether a cue of a channel may be shown after others is told by the former cue of its channel alone.
-use Rattle.std.proofs.Common.{◌≡◌, ◌∙◌, ℕ, suc, ◌+◌, ◌<◌, ◌≤◌, ◌==◌, ◌⊎◌, inl, inr, Bool, true, false, cond, List, [], ◌∷◌, ◌++◌, reverse, refl, sym, ap, subst, arith}
-use Rattle.std.specs.Prelude.{All, IfSome, Option, Some, None, find, if◌then◌else◌, map}
-use Rattle.std.specs.List.{AllByRecursion, filter, filter_map}
-use Rattle.std.proofs.lemmas.Bool.{cases_lt, eqb-true}
-use Rattle.std.proofs.lemmas.List.{append-nil, map-append, reverse-append}
+use Rattle.std.proofs.Common.{◌≡◌, ◌∙◌, ℕ, suc, inl, inr, Bool, true, false, cond, List, [], ◌∷◌, ◌++◌, refl, sym, ap, subst}
+use Rattle.std.specs.Prelude.{Option, None}
+use Rattle.std.specs.List.{AllByRecursion}
+use Rattle.std.proofs.lemmas.Bool.{eqb-true}
+use Rattle.std.proofs.lemmas.List.{append-nil, map-append}
 use Rattle.std.proofs.lemmas.List.Elements.{All-from_recursion, filter-append, filter_map-append, recursion_from_All}
 use Rattle.cc_base.specs.declared.rate.Rate.{Rate}
 use Rattle.line21_codes.specs.Channels.{field_of_channel}
 use Rattle.line21_codes.specs.declared.channels.Chan.{Chan}
 use Rattle.line21_codes.specs.declared.channels.Chan.TheVariants as chan
-use Rattle.cue_lists.specs.Cadences.{cadence_of, slot_from, slot_step, step_of}
+use Rattle.cue_lists.specs.Cadences.{cadence_of, slot_from, slot_step}
 use Rattle.cue_lists.proofs.CadenceLemmas.{slot_step_is}
-use Rattle.cue_lists.proofs.LaneCues.{lane_cues, reverse-cons}
+use Rattle.cue_lists.proofs.LaneCues.{lane_cues}
 use Rattle.cue_lists.proofs.RulesSaid.{lanes_ruled, ruled_by_lanes}
 use Rattle.cue_lists.specs.Channels.{cues_of_service, cues_on, is_on}
 use Rattle.cue_lists.specs.Lane.{is_line21, kind_lane, on_lane, same_channel, same_lane}
 use Rattle.cue_lists.specs.Listing.{IsFormed, Listing}
-use Rattle.cue_lists.specs.Rules.{IsRuled}
 use Rattle.cue_lists.specs.Rules.Sentences.{AreInSequence, AreInService, AreLanesRuled, ComesAfter, IsOnSlots}
 use Rattle.cue_lists.specs.declared.cue.Cue.{Cue}
 use Rattle.cue_lists.specs.declared.cue.Kind.{Kind}

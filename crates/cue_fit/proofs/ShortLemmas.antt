@@ -1,11 +1,10 @@
 -- The cues after which one is tried: in place of all those before it, the former cue of its channel alone.
-use Rattle.std.proofs.Common.{◌≡◌, ◌∙◌, ◌↔◌, ℕ, suc, ◌+◌, ◌-◌, ◌<◌, ◌≤◌, ◌^◌, Bool, true, false, List, [], ◌∷◌, ◌++◌, length, take, drop, drop-cons, get_or, reverse, refl, sym, ap, subst, append_assoc, add-one, arith}
+use Rattle.std.proofs.Common.{◌≡◌, ◌∙◌, ◌↔◌, ℕ, suc, ◌+◌, ◌-◌, ◌<◌, ◌≤◌, ◌^◌, Bool, true, false, List, [], ◌∷◌, ◌++◌, length, take, drop, drop-cons, get_or, reverse, refl, sym, ap, subst, append_assoc, arith}
 use Rattle.std.specs.Prelude.{All, Option, Some, None, Result, Ok, Err, find, if◌then◌else◌, option_to_list}
 use Rattle.std.specs.List.{AllByRecursion}
 use Rattle.std.proofs.lemmas.List.{length-reverse, reverse-append, reverse-reverse}
 use Rattle.std.proofs.lemmas.List.Elements.{All-from_recursion, recursion_from_All}
 use Rattle.cue_lists.proofs.ChannelCues.{All-reverse}
-use Rattle.cue_lists.proofs.InOrder.{in_order_formed}
 use Rattle.cue_lists.proofs.LaneCues.{reverse-cons}
 use Rattle.cue_lists.specs.Cues.{IsCueFormed}
 use Rattle.cue_lists.specs.Lane.{is_line21, kind_lane, on_lane}

@@ -25,7 +25,7 @@ use Rattle.lanes.specs.CueEvents.{control_event, cue_events, hide_events, show_e
 use Rattle.lanes.specs.CueUnits.{unit_of, units_of}
 use Rattle.lanes.specs.Event.{Event}
 use Rattle.lanes.specs.EventOrder.{AreFrom}
-use Rattle.lanes.specs.FieldLane.{IsAllowedInField, end_of, field_lane, slots_of}
+use Rattle.lanes.specs.FieldLane.{end_of, field_lane, slots_of}
 use Rattle.lanes.specs.FirstChannel.{first_channel}
 use Rattle.lanes.specs.LaneEvents.{AreOver, IsFree}
 use Rattle.lanes.specs.Placing.{IsPlaced}

@@ -1,10 +1,14 @@
-ghost use Rattle.std.specs.Prelude.{◌≤◌, reverse};
-ghost use Rattle.cue_lists.specs.Listing.{most_frames};
+ghost use Rattle.std.specs.Prelude.{◌≡◌, ◌≤◌, ℕ, All, MatchResult, length, reverse};
+ghost use Rattle.cue_lists.specs.Cues.{IsCueFormed};
+ghost use Rattle.cue_lists.specs.Listing.{IsFormed, most_cues, most_frames};
+ghost use Rattle.cue_lists.specs.Printing.{in_order};
+ghost use Rattle.frame_scheduler.specs.ServicePlans.{IsMemory};
 ghost use Rattle.cue_lists.specs.Rules.{IsRuled};
-ghost use Rattle.cue_fit.specs.Fitted.{list_of, most_late};
+ghost use Rattle.cue_fit.specs.Fitted.{HasPlan, list_of, most_late};
 ghost use Rattle.cue_fit.specs.Shown.{with_shown};
 ghost use Rattle.cue_fit.specs.Tries.{ComesNext, FindsShow, FitsList, TellsPlan};
 
+use crate::copies::copies;
 use crate::former::near_cues;
 use crate::shown::{add_shown, list_with, list_with_shown};
 use cue_lists::{Cue, CueList, check};
@@ -19,8 +23,32 @@ pub const MOST_LATE: u32 = 1_000;
 /// is such a one.
 ///
 /// A line 21 cue loads where the former cue of its channel is shown, if that is later than its LOAD. Where a pop-on cue takes
-/// the place of the former one, the HIDE of that one goes with its SHOW. All else stays.
+/// the place of the former one, the HIDE of that one goes with its SHOW. All else stays. A list that has a plan stays as it is.
 pub fn fit(alloc: Global, list: &CueList, late: u32) -> Result<CueList, PlanFault>
+    requires ruled { IsRuled list.now }
+    requires late { late ≤ most_late }
+    ensures { FitsList late list.now result }
+{
+    if has_plan(alloc, list)? {
+        as_it_is(alloc, list)
+    } else {
+        fit_each(alloc, list, late)
+    }
+}
+
+/// A list that has a plan, as it is, its shares in the order in which they are written.
+fn as_it_is(alloc: Global, list: &CueList) -> Result<CueList, PlanFault>
+    requires { HasPlan list.now }
+    ensures { (late : ℕ) → FitsList late list.now result }
+{
+    match copies(alloc, list.cues()) {
+        Ok(cues) => with_cues(alloc, list, cues),
+        Err(error) => Err(PlanFault::Memory(error)),
+    }
+}
+
+/// Shows each cue of a list in turn in the first frame in which it may be shown.
+fn fit_each(alloc: Global, list: &CueList, late: u32) -> Result<CueList, PlanFault>
     requires ruled { IsRuled list.now }
     requires late { late ≤ most_late }
     ensures { FitsList late list.now result }
@@ -35,7 +63,18 @@ pub fn fit(alloc: Global, list: &CueList, late: u32) -> Result<CueList, PlanFaul
             return Err(PlanFault::Memory(error));
         }
     }
-    match list_with(alloc, list, fitted) {
+    with_cues(alloc, list, fitted)
+}
+
+/// The list with these cues in place of its own.
+fn with_cues(alloc: Global, list: &CueList, cues: Vec<Cue>) -> Result<CueList, PlanFault>
+    requires list { IsFormed list.now }
+    requires formed { All IsCueFormed cues.items }
+    requires few { length cues.items ≤ most_cues }
+    ensures { MatchResult result
+        (λ other. other ≡ record (in_order list.now) { cues = cues.items }) IsMemory }
+{
+    match list_with(alloc, list, cues) {
         Ok(list) => Ok(list),
         Err(error) => Err(PlanFault::Memory(error)),
     }

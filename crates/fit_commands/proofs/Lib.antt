@@ -1,2 +1,3 @@
 mod AnswerLemmas
 pub mod VerdictLemmas
+mod AcceptedLemmas

@@ -9,7 +9,7 @@ use Rattle.command_base.specs.declared.status.Status.{Status}
 use Rattle.command_base.specs.declared.status.Status.TheVariants as status
 use Rattle.cue_fit.proofs.OneFitLemmas.{lacks_none, one_fit, one_lack}
 use Rattle.cue_fit.proofs.DecidedLemmas.{fitted_formed, list_fitted}
-use Rattle.cue_fit.proofs.PlannedLemmas.{fitted_has_plan}
+use Rattle.cue_fit.proofs.PlannedLemmas.{fitted_has_plan, placed_in_order}
 use Rattle.cue_fit.specs.Fitted.{IsFitted, LacksShow, most_late}
 use Rattle.cue_list_commands.proofs.ListVerdictLemmas.{every_list_judged, good_not_refused, good_once, list_refused_once}
 use Rattle.cue_list_commands.proofs.Refusals.{list_refusals}
@@ -64,13 +64,6 @@ refused_once late bytes one other first second = at (cause_of late bytes one fir
         let other_lacks = b.1 in
         let same = good_once bytes other_lacks.list one_lacks.list other_lacks.good one_lacks.good in
         a.2 ∙ ap status.NoRoom (one_lack late one_lacks.list a.0 b.0 one_lacks.holds (subst (λ (l : Listing). LacksShow late l b.0) same other_lacks.holds)) ∙ sym b.2
-
--- with its shares in order a list is placed as it was
-pub placed_in_order : (list : Listing) (placed : Placement) → IsFormed list → (on : Lane) → IsLanePlaced list on (placed on) → IsLanePlaced (in_order list) on (placed on)
-placed_in_order list placed formed (Channel channel) is = is
-placed_in_order list placed formed (Service service) is =
-    subst (λ (share : Option ℕ). IsEarliest (caption_lane (unwrap_or share 0) (captions_in list service)) (chunks_in list service) (placed (Service service)))
-    (sym (same_share list formed service)) is
 
 -- what is written of a fitted list is accepted
 pub fitted_accepted : FittedIsAccepted

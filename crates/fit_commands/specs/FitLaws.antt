@@ -31,3 +31,8 @@ FitRefusalIsOne = (late : ℕ) (bytes : List ℕ) (one other : Status) → IsRef
 abbrev pub EveryListIsFitted : Type 0
 EveryListIsFitted = (late : ℕ) (bytes : List ℕ) → late ≤ most_late
     → ((fitted : Listing) × IsFittedAs late bytes fitted) ⊎ ((answer : Status) × IsRefusedFit late bytes answer)
+
+-- a list that is accepted is fitted as it is, its shares in order, and is written as it was
+abbrev pub AcceptedIsFitted : Type 0
+AcceptedIsFitted = (late : ℕ) (bytes : List ℕ) (list : Listing) (placed : Placement) → IsAccepted bytes list placed
+    → IsFittedAs late bytes (in_order list) × (list_bytes (in_order list) ≡ list_bytes list)

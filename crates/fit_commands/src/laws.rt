@@ -1,5 +1,5 @@
 //! Laws of what `fit` answers: functions that do nothing, with the laws as their contracts.
-ghost use Rattle.fit_commands.specs.FitLaws.{EveryListIsFitted, FitRefusalIsOne, FittedIsAccepted, FittedIsNotRefused, FittingIsOne};
+ghost use Rattle.fit_commands.specs.FitLaws.{AcceptedIsFitted, EveryListIsFitted, FitRefusalIsOne, FittedIsAccepted, FittedIsNotRefused, FittingIsOne};
 
 /// The law that what is written of a fitted list is accepted, where it keeps to the limit of a list's bytes.
 pub fn fitted_is_accepted()
@@ -24,4 +24,9 @@ pub fn fit_refusal_is_one()
 /// The law that every list is fitted or refused, whatever its bytes.
 pub fn every_list_is_fitted()
     ensures { EveryListIsFitted }
+{}
+
+/// The law that a list which is accepted is fitted as it is: what is put of it is what `cues` puts.
+pub fn accepted_is_fitted()
+    ensures { AcceptedIsFitted }
 {}

@@ -1,4 +1,4 @@
-use Rattle.std.proofs.Common.{◌<◌, ◌≤◌, length, arith}
+use Rattle.std.proofs.Common.{◌<◌, length, arith}
 use Rattle.cue_lists.specs.Listing.{most_cues}
 use Rattle.cue_fit.proofs.ShortLemmas.{near_all, near_less, tells_all}
 use Rattle.cue_fit.proofs.fitting.may_show.Goals as goal

@@ -2,7 +2,7 @@ use Rattle.std.proofs.Common.{◌≡◌, [], length, reverse, take}
 use Rattle.std.specs.Prelude.{All}
 use Rattle.cue_lists.specs.Cues.{IsCueFormed}
 use Rattle.cue_fit.specs.Fitted.{AreFitted}
-use Rattle.cue_fit.proofs.fitting.fit.Given as goal
+use Rattle.cue_fit.proofs.fitting.fit_each.Given as goal
 
 -- the cues so far are fitted
 abbrev pub invariant-loop-index : goal.invariant-loop-index
