@@ -1,6 +1,7 @@
 -- Believed in part: the program's answer stands on some of these definitions.
 -- The command lines of the program: the words of each command, the line of usage, and the side file that a command reads.
-use Rattle.std.specs.Prelude.{◌≡◌, ◌≤◌, ◌++◌, ◌&&◌, not, ℕ, List, [], ◌∷◌, map, Option, option_map, Some, None, codes, if◌then◌else◌, Bool, true, false, ⊤}
+use Rattle.std.specs.Prelude.{◌≡◌, ◌≤◌, ◌++◌, ◌&&◌, not, ℕ, List, [], ◌∷◌, Option, option_map, Some, None, codes, if◌then◌else◌, Bool, true, false, ⊤}
+use Rattle.std.specs.List.{join_by}
 use Rattle.std.specs.Option.{option_and_then, option_or}
 use Rattle.cue_lists.specs.Fields.{named, number_within}
 use Rattle.fit_commands.specs.Fitted.{most_late}
@@ -36,9 +37,6 @@ countings =
     ∷ (codes "60DF", counting.F60Drop)
     ∷ []
 
-abbrev pub counting_of : List ℕ → Option Counting
-counting_of text = named countings text
-
 -- a time code has the mark of drop frame exactly where the count has drop frame
 abbrev pub is_marked : Counting → TimeCode → Bool
 is_marked count t = if has_drop_frame count then t.drop_frame else not t.drop_frame
@@ -49,7 +47,7 @@ start_in count text = option_and_then (λ t. if is_time_code_in count t && is_ma
 
 -- the command of a rate and a time code
 abbrev pub mcc_of : List ℕ → List ℕ → Option Command
-mcc_of rate time = option_and_then (λ count. option_map (λ start. ExportMcc count start) (start_in count time)) (counting_of rate)
+mcc_of rate time = option_and_then (λ count. option_map (λ start. ExportMcc count start) (start_in count time)) (named countings rate)
 
 -- a command whose time code, if it has one, is of the day, and whose number, if it has one, is that of a load or of a fit
 abbrev pub IsRunnable : Option Command → Type 0
@@ -100,29 +98,20 @@ other_words =
     ∷ (codes "--version", Version)
     ∷ []
 
--- the command of a word behind which nothing stands
-abbrev pub alone : Behind → Option Command
-alone (Nothing command) = Some command
-alone (Optional command more) = Some command
-alone _ = None
-
--- the command of a word and this argument
-abbrev pub with_argument : List ℕ → Behind → Option Command
-with_argument argument (Argument name command) = command argument
-with_argument argument (Optional other command) = command argument
-with_argument argument _ = None
-
--- and these two
-abbrev pub with_arguments : List ℕ → List ℕ → Behind → Option Command
-with_arguments one other (Arguments name another command) = command one other
-with_arguments one other _ = None
+-- the command of what stands behind its word, if these arguments make it one
+abbrev pub with_arguments : List (List ℕ) → Behind → Option Command
+with_arguments [] (Nothing command) = Some command
+with_arguments [] (Optional command more) = Some command
+with_arguments (argument ∷ []) (Optional command more) = more argument
+with_arguments (argument ∷ []) (Argument name command) = command argument
+with_arguments (one ∷ other ∷ []) (Arguments name another command) = command one other
+with_arguments _ _ = None
 
 -- the command that these words are, if they are one
 abbrev pub command_of : List (List ℕ) → Option Command
-command_of (word ∷ []) = option_or (option_and_then alone (named commands word)) (named other_words word)
-command_of (word ∷ argument ∷ []) = option_and_then (with_argument argument) (named commands word)
-command_of (word ∷ one ∷ other ∷ []) = option_and_then (with_arguments one other) (named commands word)
-command_of _ = None
+command_of [] = None
+command_of (word ∷ []) = option_or (option_and_then (with_arguments []) (named commands word)) (named other_words word)
+command_of (word ∷ arguments) = option_and_then (with_arguments arguments) (named commands word)
 
 -- the command reads a side file
 abbrev pub has_side_file : Option Command → Bool
@@ -144,12 +133,6 @@ usage_of (word, Optional command more) = word
 usage_of (word, Argument name command) = word ++ codes " " ++ name
 usage_of (word, Arguments name another command) = word ++ codes " " ++ name ++ codes " " ++ another
 
--- texts, with a bar between each two
-abbrev pub with_bars : List (List ℕ) → List ℕ
-with_bars [] = []
-with_bars (text ∷ []) = text
-with_bars (text ∷ (other ∷ texts)) = text ++ codes "|" ++ with_bars (other ∷ texts)
-
--- the line for words that are no command: all commands
+-- the line for words that are no command: all commands, with a bar between each two
 abbrev pub usage_line : List ℕ
-usage_line = codes "usage: ccsuite " ++ with_bars (map usage_of commands) ++ codes "\n"
+usage_line = codes "usage: ccsuite " ++ join_by usage_of (codes "|") commands ++ codes "\n"

@@ -10,16 +10,13 @@ use Rattle.cc_base.specs.declared.streams.Put.TheVariants as put
 use Rattle.cc_base.specs.declared.why.Why.{Why}
 use Rattle.cc_base.specs.declared.why.Why.TheVariants as why
 use Rattle.cc_base.specs.Rate.{rate_code}
-use Rattle.findings.specs.declared.finding.Finding.{Finding}
 use Rattle.findings.specs.declared.finding.Kind45.{Kind45}
 use Rattle.findings.specs.declared.finding.Kind45.TheVariants as kind
-use Rattle.findings.specs.declared.finding.Which.{Which}
 use Rattle.findings.specs.declared.finding.Which.TheVariants as which
 use Rattle.findings.specs.declared.misfit.MisfitKind.{MisfitKind}
 use Rattle.findings.specs.declared.misfit.MisfitKind.TheVariants as misfit
 use Rattle.findings.specs.Misfits.{misfit_name}
 use Rattle.line21_codes.specs.Channels.{channel_name}
-use Rattle.line21_codes.specs.declared.channels.Chan.{Chan}
 use Rattle.ccsuite_cli.specs.Command.{usage_line}
 use Rattle.command_base.specs.declared.status.Place.{Place}
 use Rattle.command_base.specs.declared.status.Place.TheVariants.{Byte, Field}
@@ -38,43 +35,24 @@ rule_line why cue None = text (codes "rule " ∷ name_of why ∷ codes ": cue " 
 rule_line why cue (Some other) =
     text (codes "rule " ∷ name_of why ∷ codes ": cue " ∷ decimal cue ∷ codes " and cue " ∷ decimal other ∷ codes "\n" ∷ [])
 
--- the line of a finding with what is expected and what was seen
-abbrev pub seen_line : ℕ → Why → ℕ → ℕ → List ℕ
-seen_line frame why expected seen =
-    text (codes "differs at frame " ∷ decimal frame ∷ codes ": " ∷ name_of why ∷ codes " expected " ∷ decimal expected
-    ∷ codes " seen " ∷ decimal seen ∷ codes "\n" ∷ [])
+-- the line of what was found at a frame, and what more is said of it
+abbrev pub found_line : ℕ → Why → List (List ℕ) → List ℕ
+found_line frame why more = text (codes "differs at frame " ∷ decimal frame ∷ codes ": " ∷ name_of why ∷ (more ++ codes "\n" ∷ []))
 
--- the line of a finding of which there is nothing more to say
-abbrev pub plain_line : ℕ → Why → List ℕ
-plain_line frame why = text (codes "differs at frame " ∷ decimal frame ∷ codes ": " ∷ name_of why ∷ codes "\n" ∷ [])
-
--- the line of a finding of a service
-abbrev pub service_line : ℕ → Why → ℕ → List ℕ
-service_line frame why service =
-    text (codes "differs at frame " ∷ decimal frame ∷ codes ": " ∷ name_of why ∷ codes " S" ∷ decimal service ∷ codes "\n" ∷ [])
-
--- the line of a finding of a channel
-abbrev pub channel_line : ℕ → Why → Chan → List ℕ
-channel_line frame why chan =
-    text (codes "differs at frame " ∷ decimal frame ∷ codes ": " ∷ name_of why ∷ codes " " ∷ channel_name chan ∷ codes "\n" ∷ [])
-
--- the line of a grid that differs
-abbrev pub grid_line : ℕ → Which → List ℕ
-grid_line frame (which.Chan chan) = channel_line frame why.GridDiffers chan
-grid_line frame (which.Service service) = service_line frame why.GridDiffers service
+-- what is expected and what was seen
+abbrev pub expected_seen : ℕ → ℕ → List (List ℕ)
+expected_seen expected seen = codes " expected " ∷ decimal expected ∷ codes " seen " ∷ decimal seen ∷ []
 
 -- the line of a finding; rates as their codes, and of two pairs 1 is expected
-abbrev pub line_of_kind : ℕ → Kind45 → List ℕ
-line_of_kind frame (kind.CounterJump expected seen) = seen_line frame why.CounterJump expected seen
-line_of_kind frame (kind.WrongCount expected seen) = seen_line frame why.WrongCount expected seen
-line_of_kind frame (kind.WrongRate expected seen) = seen_line frame why.WrongRate (rate_code expected) (rate_code seen)
-line_of_kind frame (kind.BufferFull service) = service_line frame why.BufferFull service
-line_of_kind frame (kind.GridDiffers which) = grid_line frame which
-line_of_kind frame (kind.TwoPairs seen) = seen_line frame why.TwoPairs 1 seen
-line_of_kind frame kind.EightBits = plain_line frame why.EightBits
-
-abbrev pub finding_line : Finding → List ℕ
-finding_line finding = line_of_kind finding.frame finding.kind
+abbrev pub finding_line : ℕ → Kind45 → List ℕ
+finding_line frame (kind.CounterJump expected seen) = found_line frame why.CounterJump (expected_seen expected seen)
+finding_line frame (kind.WrongCount expected seen) = found_line frame why.WrongCount (expected_seen expected seen)
+finding_line frame (kind.WrongRate expected seen) = found_line frame why.WrongRate (expected_seen (rate_code expected) (rate_code seen))
+finding_line frame (kind.BufferFull service) = found_line frame why.BufferFull (codes " S" ∷ decimal service ∷ [])
+finding_line frame (kind.GridDiffers (which.Chan chan)) = found_line frame why.GridDiffers (codes " " ∷ channel_name chan ∷ [])
+finding_line frame (kind.GridDiffers (which.Service service)) = found_line frame why.GridDiffers (codes " S" ∷ decimal service ∷ [])
+finding_line frame (kind.TwoPairs seen) = found_line frame why.TwoPairs (expected_seen 1 seen)
+finding_line frame kind.EightBits = found_line frame why.EightBits []
 
 -- the line of a misfit of which this was seen
 abbrev pub misfit_text : ℕ → MisfitKind → List ℕ → List ℕ
@@ -103,7 +81,7 @@ status_line (status.Limit limit) = text (codes "limit " ∷ limit_name_of limit 
 status_line (status.Malformed place why) = malformed_line place why
 status_line (status.Rule fault) = rule_line fault.why fault.cue fault.other
 status_line (status.NoRoom cue) = text (codes "no room: cue " ∷ decimal cue ∷ codes "\n" ∷ [])
-status_line (status.Differs finding) = finding_line finding
+status_line (status.Differs finding) = finding_line finding.frame finding.kind
 status_line (status.Short frames) = text (codes "short: " ∷ decimal frames ∷ codes " frames\n" ∷ [])
 status_line (status.NoRoomBeside cue) = text (codes "no room in CUES: cue " ∷ decimal cue ∷ codes "\n" ∷ [])
 status_line (status.NoXdsRoom packet) = text (codes "no room: packet " ∷ decimal packet ∷ codes "\n" ∷ [])

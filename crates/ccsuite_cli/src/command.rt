@@ -1,7 +1,7 @@
 ghost use Rattle.std.specs.Option.{option_copied};
 ghost use Rattle.std.specs.Prelude.{◌≡◌, ◌≤◌, [], ◌∷◌, IfSome, map, string_bytes, true};
-ghost use Rattle.ccsuite_cli.specs.Command.{IsRunnable, command_of, counting_of, has_side_file, is_marked, last_frame, side_path, start_in, start_of};
-ghost use Rattle.cue_lists.specs.Fields.{number_within};
+ghost use Rattle.ccsuite_cli.specs.Command.{IsRunnable, command_of, countings, has_side_file, is_marked, last_frame, side_path, start_in, start_of};
+ghost use Rattle.cue_lists.specs.Fields.{named, number_within};
 ghost use Rattle.fit_commands.specs.Fitted.{most_late};
 ghost use Rattle.load_commands.specs.LoadList.{most_load};
 ghost use Rattle.time_codes.specs.Countings.{is_time_code_in};
@@ -170,7 +170,7 @@ fn read_three(word: &str, one: &str, other: &str) -> Option<Command>
 
 /// How time codes of a rate count, by its text.
 fn read_rate(text: &str) -> Option<Counting>
-    ensures { result ≡ counting_of text.now }
+    ensures { result ≡ named countings text.now }
 {
     match text {
         "24" => Some(Counting::F24),

@@ -1,6 +1,8 @@
-ghost use Rattle.std.specs.Prelude.{◌≡◌};
+ghost use Rattle.std.specs.Prelude.{◌≡◌, [], ◌∷◌, codes, decimal};
 ghost use Rattle.cc_base.specs.Streams.{PutCause, Puts};
-ghost use Rattle.ccsuite_cli.specs.StatusLine.{channel_line, grid_line, line_of_kind, plain_line, seen_line, service_line};
+ghost use Rattle.findings.specs.declared.finding.Kind45.TheVariants.{GridDiffers};
+ghost use Rattle.line21_codes.specs.Channels.{channel_name};
+ghost use Rattle.ccsuite_cli.specs.StatusLine.{expected_seen, finding_line, found_line};
 
 use cc_base::{Put, Sink, Why, put_pieces};
 use findings::{Kind45, Which};
@@ -9,7 +11,7 @@ use line21_codes::Chan;
 
 /// Puts the line of what was found at a frame.
 pub fn put_finding<E: Sink>(frame: u32, kind: Kind45, err: &mut E) -> Put
-    ensures bytes { Puts (E.written err.old) (E.written err.new) result (line_of_kind frame kind) }
+    ensures bytes { Puts (E.written err.old) (E.written err.new) result (finding_line frame kind) }
     ensures cause { PutCause (E.faults err.old) (E.faults err.new) result }
 {
     match kind {
@@ -41,7 +43,7 @@ pub fn put_finding<E: Sink>(frame: u32, kind: Kind45, err: &mut E) -> Put
 
 /// Puts the line of a finding of which there is nothing more to say.
 fn put_plain<E: Sink>(frame: u32, why: Why, err: &mut E) -> Put
-    ensures bytes { Puts (E.written err.old) (E.written err.new) result (plain_line frame why) }
+    ensures bytes { Puts (E.written err.old) (E.written err.new) result (found_line frame why []) }
     ensures cause { PutCause (E.faults err.old) (E.faults err.new) result }
 {
     put_pieces(
@@ -58,7 +60,8 @@ fn put_plain<E: Sink>(frame: u32, why: Why, err: &mut E) -> Put
 
 /// Puts the line of a grid that differs.
 fn put_grid<E: Sink>(frame: u32, which: Which, err: &mut E) -> Put
-    ensures bytes { Puts (E.written err.old) (E.written err.new) result (grid_line frame which) }
+    ensures bytes { Puts (E.written err.old) (E.written err.new) result
+        (finding_line frame (GridDiffers which)) }
     ensures cause { PutCause (E.faults err.old) (E.faults err.new) result }
 {
     match which {
@@ -70,7 +73,7 @@ fn put_grid<E: Sink>(frame: u32, which: Which, err: &mut E) -> Put
 /// Puts the line of a finding with what is expected and what was seen.
 fn put_seen<E: Sink>(frame: u32, why: Why, expected: u16, seen: u16, err: &mut E) -> Put
     ensures bytes { Puts (E.written err.old) (E.written err.new) result
-        (seen_line frame why expected seen) }
+        (found_line frame why (expected_seen expected seen)) }
     ensures cause { PutCause (E.faults err.old) (E.faults err.new) result }
 {
     put_pieces(
@@ -92,7 +95,7 @@ fn put_seen<E: Sink>(frame: u32, why: Why, expected: u16, seen: u16, err: &mut E
 /// Puts the line of a finding of a service.
 fn put_service<E: Sink>(frame: u32, why: Why, service: u8, err: &mut E) -> Put
     ensures bytes { Puts (E.written err.old) (E.written err.new) result
-        (service_line frame why service) }
+        (found_line frame why (codes " S" ∷ decimal service ∷ [])) }
     ensures cause { PutCause (E.faults err.old) (E.faults err.new) result }
 {
     put_pieces(
@@ -112,7 +115,7 @@ fn put_service<E: Sink>(frame: u32, why: Why, service: u8, err: &mut E) -> Put
 /// Puts the line of a finding of a channel.
 fn put_channel<E: Sink>(frame: u32, why: Why, chan: Chan, err: &mut E) -> Put
     ensures bytes { Puts (E.written err.old) (E.written err.new) result
-        (channel_line frame why chan) }
+        (found_line frame why (codes " " ∷ channel_name chan ∷ [])) }
     ensures cause { PutCause (E.faults err.old) (E.faults err.new) result }
 {
     put_pieces(
