@@ -7,4 +7,5 @@ pub use Rattle.grid_print.specs.Screens
 pub mod Builders
 pub mod Receivings
 pub mod Receptions
+pub mod Sources
 pub mod Verifications

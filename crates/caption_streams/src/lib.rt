@@ -7,6 +7,7 @@ pub use crate::building::{Building, FrameForm, NextFrame};
 pub use crate::fault::FeedFault;
 pub use crate::receiving::Receiving;
 pub use crate::reception::Reception;
+pub use crate::slice_source::SliceSource;
 pub use crate::verifying::Verifying;
 
 mod building;
@@ -14,4 +15,5 @@ mod fault;
 mod front;
 mod receiving;
 mod reception;
+mod slice_source;
 mod verifying;

@@ -1,11 +1,12 @@
-use caption_streams::{Building, FeedFault, FrameForm, NextFrame, Receiving, Verifying};
+use caption_streams::{
+    Building, FeedFault, FrameForm, NextFrame, Receiving, SliceSource, Verifying,
+};
 use cc_base::{MemorySink, Put, Refusal, Source, Took, Why};
 use cc_receiver::{Ended, Fed};
 use command_base::{Place, Status};
 use cue_lists::RuleFault;
 use findings::{Finding, Kind45, Which};
 use line21_codes::{Chan, Colour};
-use reported_runs::SliceSource;
 use std::alloc::Global;
 use std::test::Fail;
 

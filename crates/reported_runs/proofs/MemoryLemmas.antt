@@ -5,7 +5,7 @@ use Rattle.ccsuite_cli.specs.Answer.{Answer}
 use Rattle.ccsuite_cli.specs.declared.command.Command.{Command}
 use Rattle.command_base.specs.Ends.{Ends, ends}
 use Rattle.command_base.specs.declared.status.Status.{Status}
-use Rattle.command_base.specs.SideEnds.{SideEnds, side_ends}
+use Rattle.caption_streams.specs.SideEnds.{SideEnds, side_ends}
 use Rattle.reported_runs.specs.Memory.{RunsInMemory, Stands}
 use Rattle.reported_runs.specs.declared.report.Report.{Report}
 

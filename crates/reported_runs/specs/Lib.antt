@@ -3,4 +3,3 @@ pub use Rattle.ccsuite_cli.specs.declared.command.Command
 pub mod Memory
 pub mod Reasons
 pub mod Reports
-pub mod Sources

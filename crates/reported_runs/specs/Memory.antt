@@ -3,7 +3,7 @@
 use Rattle.std.specs.Prelude.{◌≡◌, ◌≢◌, ◌≤◌, ◌<◌, ◌⊎◌, ◌++◌, ℕ, List, [], length, drop, take, Some}
 use Rattle.ccsuite_cli.specs.Answer.{Answer}
 use Rattle.ccsuite_cli.specs.declared.command.Command.{Command}
-use Rattle.command_base.specs.SideEnds.{side_ends}
+use Rattle.caption_streams.specs.SideEnds.{side_ends}
 use Rattle.command_base.specs.Ends.{ends}
 use Rattle.command_base.specs.declared.status.Status.{Status}
 use Rattle.command_base.specs.declared.status.Status.TheVariants as statuses

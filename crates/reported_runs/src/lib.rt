@@ -6,7 +6,6 @@ pub use crate::line::text_of;
 pub use crate::reason::{Reason, reason_of, reason_told};
 pub use crate::report::{Report, TEXT, report_of};
 pub use crate::run::run_in_memory;
-pub use crate::slice_source::SliceSource;
 pub use ccsuite_cli::{Command, MOST_LOAD};
 
 mod line;
@@ -14,4 +13,3 @@ mod output;
 mod reason;
 mod report;
 mod run;
-mod slice_source;

@@ -4,7 +4,7 @@ ghost use Rattle.reported_runs.specs.Memory.{RunsInMemory, Stands};
 
 use crate::output::WholeOutput;
 use crate::report::{Report, report_of, report_of_room};
-use crate::slice_source::SliceSource;
+use caption_streams::SliceSource;
 use ccsuite_cli::{Command, perform};
 use command_base::Status;
 use std::alloc::Global;

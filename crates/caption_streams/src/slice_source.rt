@@ -9,7 +9,7 @@ pub struct SliceSource<'a> {
 }
 
 impl<'a> SliceSource<'a> {
-    ghost use Rattle.reported_runs.specs.Sources.{slice_left};
+    ghost use Rattle.caption_streams.specs.Sources.{slice_left};
 
     /// A source of these bytes.
     pub fn new(bytes: &'a [u8]) -> SliceSource<'a>
@@ -20,7 +20,7 @@ impl<'a> SliceSource<'a> {
 }
 
 impl Source for SliceSource<'_> {
-    ghost use Rattle.reported_runs.specs.Sources.{slice_left};
+    ghost use Rattle.caption_streams.specs.Sources.{slice_left};
 
     ghost left = { λ source. Some (slice_left source) };
 
