@@ -1,12 +1,12 @@
 -- What `convert` answers where a words file was read, or the reading of it stopped before.
-use Rattle.std.proofs.Common.{◌≡◌}
+use Rattle.std.proofs.Common.{◌≡◌, ℕ, List}
 use Rattle.cc_base.specs.declared.streams.Put.TheVariants as put
 use Rattle.command_base.proofs.RealisedLemmas.{IsPlain}
 use Rattle.command_base.specs.Ends.{Ends, IsSteady}
 use Rattle.command_base.specs.declared.status.Status.{Status}
 use Rattle.command_base.specs.declared.status.Status.TheVariants as status
-use Rattle.convert_commands.specs.ConvertVerdict.{AreConverted, ConvertEnd, ConvertHalts, ConvertVerdict}
-use Rattle.convert_commands.specs.Converting.{HasMade, unfit_status}
+use Rattle.convert_commands.specs.ConvertVerdict.{ConvertHalts, ConvertVerdict}
+use Rattle.convert_commands.specs.Converting.{AreConverted, HasMade, unfit_status}
 use Rattle.convert_commands.specs.declared.converting.Converting.{Converting}
 use Rattle.convert_commands.specs.declared.converting.Unfit.{Unfit}
 use Rattle.rate_convert.specs.Conversion.{conversion_bytes}
@@ -16,7 +16,12 @@ use Rattle.words_reading.specs.Causes.{IsWholeFile}
 use Rattle.words_reading.specs.Reading.{Stops, StopsEarly as Stopped}
 use Rattle.words_reading.specs.Statuses.{stop_status}
 use Rattle.command_base.specs.Realises.{RealisesLeaving}
+use Rattle.words_reading.specs.WordsVerdict.{EndsWell}
 use Rattle.words_reading.specs.declared.judge.Stop.{Stop}
+
+-- a file without a misfit ends with the words that its frames become
+abbrev pub ConvertEnd : Status → List ℕ → List ℕ → Type 0
+ConvertEnd = EndsWell (λ frames text. AreFit frames × (text ≡ conversion_bytes frames))
 
 -- the words were read to their end
 pub convert_done : (converting : Converting) (old new : Ends)

@@ -28,8 +28,8 @@ use Rattle.words_files.specs.FramesOf.{AreFramesOf}
 use Rattle.words_reading.proofs.PieceLemmas.{front_size, front_spelled}
 use Rattle.words_reading.specs.Judging.{HasGathered, HasStopped}
 use Rattle.words_reading.specs.declared.judge.Stop.TheVariants as stop
-use Rattle.convert_commands.specs.ConvertVerdict.{AreConverted, ConvertHalts}
-use Rattle.convert_commands.specs.Converting.{HasMade, IsUnderway, unfit_status}
+use Rattle.convert_commands.specs.ConvertVerdict.{ConvertHalts}
+use Rattle.convert_commands.specs.Converting.{AreConverted, HasMade, IsUnderway, unfit_status}
 use Rattle.convert_commands.specs.declared.converting.Converting.{Converting}
 use Rattle.convert_commands.specs.declared.converting.Unfit.{Unfit}
 

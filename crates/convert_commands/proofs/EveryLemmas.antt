@@ -16,7 +16,9 @@ use Rattle.command_base.specs.Exact.{HasVerdict, IsFault}
 use Rattle.command_base.specs.declared.status.Status.{Status}
 use Rattle.command_base.specs.declared.status.Status.TheVariants as status
 use Rattle.convert_commands.proofs.VerdictLemmas.{IsUnfit}
-use Rattle.convert_commands.specs.ConvertVerdict.{AreConverted, ConvertEnd, ConvertHalts, ConvertVerdict}
+use Rattle.convert_commands.specs.ConvertVerdict.{ConvertHalts, ConvertVerdict}
+use Rattle.convert_commands.specs.Converting.{AreConverted}
+use Rattle.convert_commands.proofs.AnswerLemmas.{ConvertEnd}
 use Rattle.findings.specs.First.{IsFirstTried}
 use Rattle.findings.specs.declared.finding.Which.TheVariants as which
 use Rattle.findings.specs.declared.misfit.MisfitKind.{MisfitKind}

@@ -4,7 +4,9 @@ use Rattle.cdp_packets.specs.Packets.{Frame}
 use Rattle.command_base.specs.Exact.{IsOne}
 use Rattle.command_base.specs.declared.status.Status.{Status}
 use Rattle.command_base.specs.declared.status.Status.TheVariants as status
-use Rattle.convert_commands.specs.ConvertVerdict.{AreConverted, ConvertEnd, ConvertHalts, ConvertVerdict}
+use Rattle.convert_commands.proofs.AnswerLemmas.{ConvertEnd}
+use Rattle.convert_commands.specs.ConvertVerdict.{ConvertHalts, ConvertVerdict}
+use Rattle.convert_commands.specs.Converting.{AreConverted}
 use Rattle.convert_commands.specs.KeptGrids.{ConversionsKeepGrids}
 use Rattle.rate_convert.proofs.ConvertedFileLemmas.{converted_file}
 use Rattle.rate_convert.proofs.FitLemmas.{convertible_behind, fit_none}

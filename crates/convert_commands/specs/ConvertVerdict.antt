@@ -6,22 +6,14 @@ use Rattle.command_base.specs.declared.status.Status.TheVariants as status
 use Rattle.rate_convert.specs.Conversion.{conversion_bytes}
 use Rattle.rate_convert.specs.Misfits.{AreFit, IsMisfitAt}
 use Rattle.words_reading.specs.FrameTexts.{FramesHalt, FramesSay}
-use Rattle.words_reading.specs.WordsVerdict.{OfFile, WordsVerdict}
+use Rattle.words_reading.specs.WordsVerdict.{EndsWell, WordsVerdict}
 
--- these are the words that the frames become which bytes bring, and none of the frames has a misfit
-abbrev pub AreConverted : List ℕ → List ℕ → Type 0
-AreConverted = FramesSay conversion_bytes AreFit
-
--- so they are of the whole file
-abbrev pub ConvertEnd : Status → List ℕ → List ℕ → Type 0
-ConvertEnd status.Ok input text = OfFile (λ frames. AreFit frames × (text ≡ conversion_bytes frames)) input
-ConvertEnd _ input text = ⊥
-
--- or bytes, none of whose words offends, end with the first frame that has a misfit, and these are the words that the frames before it become
+-- bytes, none of whose words offends, end with the first frame that has a misfit, and these are the words that the frames before it become
 abbrev pub ConvertHalts : Status → List ℕ → List ℕ → Type 0
 ConvertHalts (status.Misfit found) bytes text = FramesHalt conversion_bytes AreFit (λ earlier last. IsMisfitAt earlier last found) bytes text
 ConvertHalts _ bytes text = ⊥
 
--- `convert`
+-- `convert`: the words that the frames become, of which none has a misfit; a file ends well with those of all its frames
 abbrev pub ConvertVerdict : List ℕ → Status → List ℕ → Type 0
-ConvertVerdict = WordsVerdict ConvertEnd AreConverted ConvertHalts
+ConvertVerdict =
+    WordsVerdict (EndsWell (λ frames text. AreFit frames × (text ≡ conversion_bytes frames))) (FramesSay conversion_bytes AreFit) ConvertHalts

@@ -1,6 +1,6 @@
 ghost use Rattle.std.specs.Prelude.{List};
-ghost use Rattle.convert_commands.specs.ConvertVerdict.{AreConverted, ConvertHalts};
-ghost use Rattle.convert_commands.specs.Converting.{HasMade, IsUnderway, unfit_status};
+ghost use Rattle.convert_commands.specs.ConvertVerdict.{ConvertHalts};
+ghost use Rattle.convert_commands.specs.Converting.{AreConverted, HasMade, IsUnderway, unfit_status};
 
 use cc_base::{Put, Refusal, Sink};
 use command_base::Status;
