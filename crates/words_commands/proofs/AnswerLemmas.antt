@@ -31,8 +31,8 @@ use Rattle.words_reading.specs.declared.judge.Never.{Never}
 use Rattle.words_reading.specs.declared.judge.Stop.{Stop}
 use Rattle.words_commands.proofs.PrintingLemmas.{nothing_shown, show_before}
 use Rattle.words_commands.specs.Screens.{changes_of, counted, frames_line, show_output}
-use Rattle.words_commands.specs.Verdicts.{ChangesEnd, ChangesVerdict, IsTextOf, ShowEnd, ShowVerdict}
-use Rattle.words_reading.specs.WordsVerdict.{NeverHalts, WordsVerdict}
+use Rattle.words_commands.specs.Verdicts.{ChangesVerdict, IsTextOf, ShowEnd, ShowVerdict}
+use Rattle.words_reading.specs.WordsVerdict.{EndsWell, NeverHalts, WordsVerdict}
 use Rattle.command_base.specs.Realises.{RealisesLeaving}
 use Rattle.words_commands.specs.declared.changes.Changes.{Changes}
 use Rattle.words_commands.specs.declared.screens_at.ScreensAt.{ScreensAt}
@@ -121,6 +121,10 @@ text_in : (text_of : List Frame → List ℕ) (frames : List Frame) (judged text
     → text ≡ text_of frames
 text_in text_of frames judged text file says =
     says.text_is ∙ ap text_of (frames_of_once caption_channel says.frames frames judged says.frames_are (file_frames caption_channel frames judged file))
+
+-- the changes of all frames, and their number
+abbrev pub ChangesEnd : (List Frame → List ℕ) → Status → List ℕ → List ℕ → Type 0
+ChangesEnd changes = EndsWell (λ frames text. text ≡ counted changes frames)
 
 changes_end : (changes : List Frame → List ℕ) (frames : List Frame) (judged text : List ℕ) → IsFileUnder caption_channel frames judged → IsTextOf (counted changes) judged text
     → ChangesEnd changes status.Ok judged text

@@ -7,7 +7,8 @@ use Rattle.command_base.specs.Exact.{HasVerdict, IsFault, IsOne}
 use Rattle.command_base.specs.declared.status.Status.{Status}
 use Rattle.command_base.specs.declared.status.Status.TheVariants as status
 use Rattle.words_commands.specs.Screens.{counted, show_output}
-use Rattle.words_commands.specs.Verdicts.{ChangesEnd, ChangesVerdict, IsTextOf, ShowEnd, ShowVerdict}
+use Rattle.words_commands.proofs.AnswerLemmas.{ChangesEnd}
+use Rattle.words_commands.specs.Verdicts.{ChangesVerdict, IsTextOf, ShowEnd, ShowVerdict}
 use Rattle.words_files.specs.FramesOf.{AreFramesOf}
 use Rattle.words_files.specs.Offences.{IsFileUnder}
 use Rattle.words_reading.proofs.EveryLemmas.{every_words}

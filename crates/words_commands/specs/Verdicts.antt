@@ -5,21 +5,17 @@ use Rattle.cdp_packets.specs.Packets.{Frame}
 use Rattle.command_base.specs.declared.status.Status.{Status}
 use Rattle.command_base.specs.declared.status.Status.TheVariants as status
 use Rattle.words_reading.specs.FrameTexts.{FramesSay}
-use Rattle.words_reading.specs.WordsVerdict.{NeverHalts, OfFile, WordsVerdict}
+use Rattle.words_reading.specs.WordsVerdict.{EndsWell, NeverHalts, OfFile, WordsVerdict}
 use Rattle.words_commands.specs.Screens.{counted, show_output}
 
 -- this is the text of the frames that bytes bring
 abbrev pub IsTextOf : (List Frame → List ℕ) → List ℕ → List ℕ → Type 0
 IsTextOf text_of = FramesSay text_of (λ frames. Unit {0})
 
--- the changes of all frames, or other lines of them, and at the end of the file their number
-abbrev pub ChangesEnd : (List Frame → List ℕ) → Status → List ℕ → List ℕ → Type 0
-ChangesEnd changes status.Ok input text = OfFile (λ frames. text ≡ counted changes frames) input
-ChangesEnd changes _ input text = ⊥
-
--- `decode` puts the changes of screens, `conceal` those of concealed screens, and `xds-show` the lines of packets
+-- the changes of all frames, or other lines of them, and at the end of the file their number: `decode` puts the changes of screens,
+-- `conceal` those of concealed screens, and `xds-show` the lines of packets
 abbrev pub ChangesVerdict : (List Frame → List ℕ) → List ℕ → Status → List ℕ → Type 0
-ChangesVerdict changes = WordsVerdict (ChangesEnd changes) (IsTextOf changes) NeverHalts
+ChangesVerdict changes = WordsVerdict (EndsWell (λ frames text. text ≡ counted changes frames)) (IsTextOf changes) NeverHalts
 
 -- the screens of one frame, which the file has or is too short for
 abbrev pub ShowEnd : ℕ → Status → List ℕ → List ℕ → Type 0
