@@ -6,8 +6,8 @@ use Rattle.command_base.specs.Realises.{LeavesAll}
 use Rattle.command_base.specs.declared.status.Status.{Status}
 use Rattle.convert_commands.proofs.EveryLemmas.{every_convert}
 use Rattle.convert_commands.proofs.VerdictLemmas.{convert_one}
-use Rattle.cue_list_commands.proofs.ListVerdictLemmas.{build_one, cues_one, pairs_one}
-use Rattle.cue_list_commands.proofs.EveryLemmas.{every_build, every_cues, every_pairs}
+use Rattle.fit_commands.proofs.ListVerdictLemmas.{build_one, cues_one, pairs_one}
+use Rattle.fit_commands.proofs.EveryLemmas.{every_build, every_cues, every_pairs}
 use Rattle.dual_commands.proofs.VerdictLemmas.{dual_one}
 use Rattle.dual_commands.proofs.EveryLemmas.{every_dual}
 use Rattle.fit_commands.proofs.VerdictLemmas.{every_fit, fit_one}

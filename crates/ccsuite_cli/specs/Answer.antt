@@ -7,9 +7,9 @@ use Rattle.command_base.specs.SideEnds.{SideEnds}
 use Rattle.command_base.specs.declared.status.Status.{Status}
 use Rattle.command_base.specs.declared.status.Status.TheVariants as status
 use Rattle.convert_commands.specs.ConvertVerdict.{ConvertVerdict}
-use Rattle.cue_list_commands.specs.Accepted.{IsGoodList}
-use Rattle.cue_list_commands.specs.ListVerdict.{BuildVerdict, CuesVerdict, PairsVerdict}
-use Rattle.cue_list_commands.specs.Output.{IsPlacedAs}
+use Rattle.fit_commands.specs.Accepted.{IsGoodList}
+use Rattle.fit_commands.specs.ListVerdict.{BuildVerdict, CuesVerdict, PairsVerdict}
+use Rattle.fit_commands.specs.Output.{IsPlacedAs}
 use Rattle.dual_commands.specs.DualVerdict.{DualVerdict}
 use Rattle.fit_commands.specs.FitVerdict.{FitVerdict}
 use Rattle.help_commands.specs.Pages.{page_text}

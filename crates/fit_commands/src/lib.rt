@@ -3,6 +3,7 @@
 
 pub use crate::fit::run_fit;
 pub use cue_fit::MOST_LATE;
+pub use cue_list_commands::{run_build, run_cues, run_pairs};
 
 mod fit;
 pub mod laws;
