@@ -26,6 +26,7 @@ use Rattle.cue_types.specs.declared.head.Version.TheVariants as version
 use Rattle.cue_records.specs.declared.record_role.RecordRole.TheVariants as role
 use Rattle.cue_records.specs.CueApart.{AnswersCue, AreOfCue, IsHead, begun_with, kind_of, read_apart, role_of}
 use Rattle.cue_records.specs.CueReading.{HasBegun, IsDue}
+use Rattle.cue_records.proofs.LimitLemmas.{IsWithin, continued_within, opened_within}
 use Rattle.cue_records.proofs.ApartLemmas.{continued_alone, opened_alone, same_ok}
 
 -- a list that has a head alone
@@ -110,15 +111,15 @@ begins head number r b is opens taken = record {
 
 -- a fault of the next record
 due_of : (due : Result Listing CueFault) (o : Offence) (number : ℕ) (one : Result Begun Offence) (rest : Begun → Result Listing CueFault) (f : CueFault)
-    → due ≡ read_on number one rest → AnswersOffence one o → f ≡ in_record number o → IsDue due f
-due_of due (offence.Memory error) number one rest f is took at = rw at tt
-due_of due (offence.Limit which) number one rest f is took at = rw (at, is, took) refl
-due_of due (offence.At place why) number one rest f is took at = rw (at, is, took) refl
+    → due ≡ read_on number one rest → IsWithin one → AnswersOffence one o → f ≡ in_record number o → IsDue due f
+due_of due (offence.Memory error) number one rest f is within took at = rw at tt
+due_of due (offence.Limit which) number one rest f is within took at = absurd (within which took)
+due_of due (offence.At place why) number one rest f is within took at = rw (at, is, took) refl
 
-pub begins_faulty : (head : Head) (number : ℕ) (r : Record) (o : Offence) (f : CueFault) → AnswersOffence (next (begun_with head [] [] None) r) o → f ≡ in_record number o
+pub begins_faulty : (head : Head) (number : ℕ) (r : Record) (o : Offence) (f : CueFault) → role_of (kind_of r) ≡ role.Opens → AnswersOffence (next (begun_with head [] [] None) r) o → f ≡ in_record number o
     → HasBegun head number (r ∷ []) (Err f)
-begins_faulty head number r o f took at rest =
-    due_of (read_apart head number (r ∷ rest)) o number (next (begun_with head [] [] None) r) (λ b. read_from b (number + 1) rest) f refl took at
+begins_faulty head number r o f opens took at rest =
+    due_of (read_apart head number (r ∷ rest)) o number (next (begun_with head [] [] None) r) (λ b. read_from b (number + 1) rest) f refl (opened_within head r (kind_of r) opens) took at
 
 -- a record more
 one_more : (number : ℕ) (records : List Record) (r : Record) → number + length (records ++ r ∷ []) ≡ (number + length records) + 1
@@ -140,10 +141,13 @@ goes_on head number records r b more has on taken = record {
     by = rw has.alone (continued_alone head b.last r (kind_of r) on)
 
 pub goes_faulty : (head : Head) (number : ℕ) (records : List Record) (r : Record) (b : Begun) (o : Offence) (f : CueFault) → HasBegun head number records (Ok b)
-    → AnswersOffence (next b r) o → f ≡ in_record (number + length records) o → HasBegun head number (records ++ r ∷ []) (Err f)
-goes_faulty head number records r b o f has took at rest =
+    → role_of (kind_of r) ≡ role.Continues → AnswersOffence (next b r) o → f ≡ in_record (number + length records) o → HasBegun head number (records ++ r ∷ []) (Err f)
+goes_faulty head number records r b o f has on took at rest =
     due_of (read_apart head number ((records ++ r ∷ []) ++ rest)) o (number + length records) (next b r) (λ b. read_from b ((number + length records) + 1) rest) f
-    (ap (read_apart head number) (append_assoc records (r ∷ []) rest) ∙ has.reads (r ∷ rest)) took at
+    (ap (read_apart head number) (append_assoc records (r ∷ []) rest) ∙ has.reads (r ∷ rest)) within took at
+  where
+    within : IsWithin (next b r)
+    within = rw has.alone (continued_within head b.last r (kind_of r) on)
 
 pub stays_faulty : (head : Head) (number : ℕ) (records : List Record) (r : Record) (f : CueFault) → HasBegun head number records (Err f) → HasBegun head number (records ++ r ∷ []) (Err f)
 stays_faulty head number records r f has rest = rw append_assoc (has (r ∷ rest))
@@ -165,7 +169,7 @@ at_end head number records b has =
 
 pub ends_faulty : (head : Head) (number : ℕ) (records : List Record) (f : CueFault) → HasBegun head number records (Err f) → AnswersCue head (read_apart head number records) (Err f)
 ends_faulty head number records (fault.Memory error) has = tt
-ends_faulty head number records (fault.Limit which) has = ap (read_apart head number) (sym (append-nil records)) ∙ has []
+ends_faulty head number records (fault.Limit which) has = has []
 ends_faulty head number records (fault.Malformed rec place why) has = ap (read_apart head number) (sym (append-nil records)) ∙ has []
 
 -- a list of runs is empty, or isn't

@@ -18,10 +18,10 @@ pub record LeadsTo (head : Head) (number : ℕ) (records : List Record) (b : Beg
   pub some : is_some b.last ≡ true
   pub reads : (rest : List Record) → read_apart head number (records ++ rest) ≡ read_from b (number + length records) rest
 
--- this fault is due, unless memory ran out
+-- this fault is due, unless memory ran out; it is no limit
 abbrev pub IsDue : Result Listing CueFault → CueFault → Type 0
 IsDue due (fault.Memory error) = ⊤
-IsDue due (fault.Limit which) = due ≡ Err (fault.Limit which)
+IsDue due (fault.Limit which) = ⊥
 IsDue due (fault.Malformed number place why) = due ≡ Err (fault.Malformed number place why)
 
 -- the records of a cue begin this list, or have this fault whatever follows
