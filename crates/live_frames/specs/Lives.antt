@@ -10,7 +10,7 @@ use Rattle.frame_carrier.specs.Plan.{Plan}
 use Rattle.frame_carrier.specs.Carrying.{IsAt, packets_before}
 use Rattle.frame_carrier.specs.declared.carrier.Carrier.{Carrier}
 use Rattle.live_frames.specs.Longer.{first_words}
-use Rattle.live_frames.specs.LeftOut.{IsLeftOut, list_with}
+use Rattle.live_frames.specs.LeftOut.{IsLeftOut, MayComeAt, list_with}
 use Rattle.live_frames.specs.declared.live_fault.LiveFault.{LiveFault}
 use Rattle.live_frames.specs.declared.live.Live.{Live}
 
@@ -30,9 +30,9 @@ pub record IsUnderWay (words : List ℕ) (list own : Listing) (plan : Plan) (car
 abbrev pub IsLive : List ℕ → Listing → Live → Type 0
 IsLive words list live = IsUnderWay words list live.list live.plan live.carrier live.frame
 
--- the cue is taken, and the words that were given are those of the list with it; or it is left out for a reason
+-- the cue is taken, which may come at this frame, and the words that were given are those of the list with it; or it is left out for a reason
 abbrev pub Adds : List ℕ → ℕ → Listing → Cue → Result (Unit {0}) LiveFault → Live → Type 0
-Adds words frame list cue (Ok _) new = IsLive words (list_with list cue) new
+Adds words frame list cue (Ok _) new = MayComeAt frame list cue × IsLive words (list_with list cue) new
 Adds words frame list cue (Err why) new = IsLeftOut frame list cue why
 
 -- the words of the next frame are given, or those of all frames were

@@ -1,4 +1,4 @@
-ghost use Rattle.std.specs.Prelude.{◌≡◌, ◌+◌, ◌-◌, ◌^◌, ◌<◌, ◌≤◌, [], ℕ, List, IfErr, IfOk, Err};
+ghost use Rattle.std.specs.Prelude.{◌≡◌, ◌+◌, ◌-◌, ◌^◌, ◌<◌, ◌≤◌, [], true, ℕ, List, IfErr, IfOk, Err};
 ghost use Rattle.cue_lists.specs.Cues.{IsCueFormed};
 ghost use Rattle.cue_lists.specs.Listing.{Listing};
 ghost use Rattle.cue_lists.specs.Rules.{IsRuled};
@@ -55,6 +55,7 @@ impl Live {
         ensures adds { (words : List ℕ) (list : Listing) → IsLive words list self.old
             → Adds words self.old.frame list cue result self.new }
         ensures left { IfErr result (λ _. self.new ≡ self.old) }
+        ensures frame { self.new.frame ≡ self.old.frame }
     {
         let count = self.list.cues().len();
         if count >= MOST_CUES {
@@ -80,8 +81,9 @@ impl Live {
     /// ST 334-1 and ST 334-2). After the last frame nothing is written. It takes no memory.
     pub fn next(&mut self, words: &mut ArrayVec<u8, 524>) -> bool
         requires { words.old.items ≡ [] }
-        ensures { (given : List ℕ) (list : Listing) → IsLive given list self.old
+        ensures gives { (given : List ℕ) (list : Listing) → IsLive given list self.old
             → GivesFrame given list result words.new.items self.new }
+        ensures counts { result ≡ true → self.new.frame ≡ self.old.frame + 1 }
     {
         if self.frame == self.list.frames() {
             return false;
