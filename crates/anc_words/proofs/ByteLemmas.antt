@@ -56,7 +56,7 @@ parts-words_of front (high ∷ []) = refl
 parts-words_of front (high ∷ low ∷ bytes) =
     ap (λ parts. step_parts (judge_word front (256 * high + low)) ++ parts) (parts-words_of (words_after front (256 * high + low)) bytes)
 
--- what is open behind them
+-- what is open after them
 pub open-words_of : (front bytes : List ℕ)
     → front_from open_after (at_words front) bytes ≡ record { high = last_high bytes; words = front_from words_after front (words_of bytes) }
 open-words_of front [] = refl
@@ -119,7 +119,7 @@ ten_bits (p ∷ packets) words (front, rest, spelled, is, are) =
     (All-append (λ word. word < 1024) front rest (IsPacket-ten_bits p front is)
     (All-from_recursion (λ word. word < 1024) rest (ten_bits packets rest are))))
 
--- what holds of all holds of those behind
+-- what holds of all holds of those after
 all_behind : (P : ℕ → Type 0) (front behind : List ℕ) → AllByRecursion P (front ++ behind) → AllByRecursion P behind
 all_behind P [] behind all = all
 all_behind P (word ∷ front) behind (_, all) = all_behind P front behind all

@@ -89,7 +89,7 @@ begins-head bytes count user checksum are begins =
     let (behind, same) = bytes_of-words head_words bytes (count ∷ (user ++ checksum ∷ begins.rest)) (recursion_from_All IsByte bytes are) begins.spelled in
     ap (take 10) same
 
--- pairs of bytes: those behind the flag and the identifiers
+-- pairs of bytes: those after the flag and the identifiers
 abbrev pub ArePairs : List ℕ → List (List ℕ) → Type 0
 ArePairs bytes pairs = pairs ≡ first_chunks 2 (length (drop 10 bytes) / 2) (drop 10 bytes)
 
@@ -119,7 +119,7 @@ pairs-begin bytes pairs count user checksum begins head are =
     let tails : words_of (drop 10 bytes) ≡ count ∷ (user ++ checksum ∷ begins.rest) = cc in
     pairs-words bytes pairs are ∙ tails
 
--- the low bytes of the first of those behind the count
+-- the low bytes of the first of those after the count
 pub pairs-low_bytes : (bytes : List ℕ) (pairs words user : List (List ℕ)) (count : List ℕ) (many : ℕ) → All IsByte bytes → ArePairs bytes pairs
     → pairs ≡ count ∷ words → user ≡ take many words → map low_of user ≡ map (λ word. word % 256) (map word_of user)
 pairs-low_bytes bytes pairs words user count many bounded are first front =
@@ -141,7 +141,7 @@ pairs-count bytes pairs count user checksum begins head are none =
     let words = ap length (pairs-begin bytes pairs count user checksum begins head are) in
     omega (arith, words, length-map pairs word_of)
 
--- and behind it there are more pairs than the count says
+-- and after it there are more pairs than the count says
 pub pairs-more : (bytes : List ℕ) (pairs words : List (List ℕ)) (first : List ℕ) (count : ℕ) (user : List ℕ) (checksum : ℕ) → BeginsWithCaptions bytes count user checksum
     → take 10 bytes ≡ head_bytes → ArePairs bytes pairs → pairs ≡ first ∷ words → length words ≤ word_of first % 256 → ⊥
 pairs-more bytes pairs words first count user checksum begins head are spelled few =
@@ -164,7 +164,7 @@ begins-one_way bytes count other user others checksum last begins again =
     let (users, behind) = same_heads user others (checksum ∷ begins.rest) (last ∷ again.rest) many tails in
     (counted, users, cc)
 
--- so many words of ten bits at the front of bytes
+-- this many words of ten bits at the front of bytes
 AreWords-front : (many size : ℕ) (bytes : List ℕ) → size ≡ 2 * many → AllByRecursion IsByte bytes → size ≤ length bytes
     → AllByRecursion (λ word. word < 1024) (take many (words_of bytes)) → AreWords (take size bytes) (take many (words_of bytes))
 AreWords-front zero zero bytes twice are long small = tt

@@ -10,7 +10,7 @@ use Rattle.anc_words.specs.Ending.{bytes_to_end, words_to_end}
 use Rattle.anc_words.specs.Reading.{anc_syntax, Open, nothing_open, open_after, words_after}
 use Rattle.anc_words.proofs.ByteLemmas.{file_is_read}
 
--- behind the count
+-- after the count
 body_falls : (test : Bool) (first second third did sdid count word : ℕ) (user : List ℕ) → nat_lt (length user) (count % 256) ≡ test
     → count % 256 - length user + 1 ≤ words_to_end (if test then first ∷ second ∷ third ∷ did ∷ sdid ∷ count ∷ (user ++ word ∷ []) else []) + 1
 body_falls true first second third did sdid count word user is = let long = length-append user (word ∷ []) in omega (arith, long)

@@ -32,7 +32,7 @@ pub record ArePut (old now user : List ℕ) (total : ℕ) : Type 0 where
 abbrev pub words_of_eights : List (List ℕ) → List ℕ
 words_of_eights eights = map eight_bit_word (flat_map (λ eight. eight) eights)
 
--- the bytes so far are the old ones and those of the words of so many eights, whose sum is in the lanes
+-- the bytes so far are the old ones and those of the words of this many eights, whose sum is in the lanes
 pub record EightsArePut (old now : List ℕ) (eights : List (List ℕ)) (many : ℕ) (sums : List ℕ) : Type 0 where
   pub items : now ≡ old ++ flat_map word_bytes (words_of_eights (take many eights))
   pub len : length now ≡ length old + 16 * many

@@ -1,4 +1,4 @@
--- Packets are read: none of their words is refused, they make the packets' parts, and nothing is open behind them.
+-- Packets are read: none of their words is refused, they make the packets' parts, and nothing is open after them.
 use Rattle.std.proofs.Common.{◌≡◌, ℕ, ◌+◌, ◌%◌, ◌<◌, ◌≤◌, ◌==◌, ◌||◌, not, nat_lt, if◌then◌else◌, Bool, true, false, List, [], ◌∷◌, ◌++◌, length, map, refl, ap, sym, subst, ◌∙◌, arith, append_assoc, append-nil, length-append, eq-eqb}
 use Rattle.std.proofs.lemmas.Bool.{and_parts}
 use Rattle.std.proofs.lemmas.Bool.Decides.{nat_tests}
@@ -29,7 +29,7 @@ judge_word-below words word below =
 pub is_eight_bit-true : (word : ℕ) → IsEightBit (word % 256) word → is_eight_bit word ≡ true
 is_eight_bit-true word is = eq-eqb word (eight_bit_word (word % 256)) (IsEightBit-word (word % 256) word is)
 
--- the word may be a user word behind these identifiers
+-- the word may be a user word after these identifiers
 abbrev pub FitsUser : ℕ → ℕ → ℕ → Type 0
 FitsUser did sdid word = (word < 1024) × ((is_eight_bit word || not (is_caption did sdid)) ≡ true)
 

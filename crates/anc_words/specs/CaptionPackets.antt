@@ -6,7 +6,7 @@ use Rattle.anc_words.specs.WordsFiles.{IsPacketBytes}
 use Rattle.anc_words.specs.CaptionWords.{low_of}
 use Rattle.anc_words.specs.declared.caption_packet.CaptionPacket.{CaptionPacket}
 
--- the first bytes, so many, are a packet of captions that carries these user bytes
+-- the first bytes, this many, are a packet of captions that carries these user bytes
 pub record IsCaptionAhead (bytes : List ℕ) (size : ℕ) (user : List ℕ) : Type 0 where
   pub packet : AncillaryPacket
   pub is_caption : IsCaption packet

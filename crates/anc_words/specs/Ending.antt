@@ -4,7 +4,7 @@
 use Rattle.std.specs.Prelude.{ℕ, ◌+◌, ◌-◌, ◌*◌, ◌%◌, List, [], ◌∷◌, length, Option, Some, None}
 use Rattle.anc_words.specs.Reading.{Open}
 
--- the number of words that a packet has at least behind these of its words
+-- the number of words that a packet has at least after these of its words
 abbrev pub words_to_end : List ℕ → ℕ
 words_to_end [] = 7
 words_to_end (first ∷ []) = 6

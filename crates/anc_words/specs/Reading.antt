@@ -40,7 +40,7 @@ judge_ten_bits (first ∷ second ∷ third ∷ did ∷ sdid ∷ count ∷ user) 
 abbrev pub judge_word : List ℕ → ℕ → Step WordPart
 judge_word words word = if nat_lt word 0x400 then judge_ten_bits words word else Refuse why.HighBits
 
--- the words of the open packet behind one more; the checksum word ends the packet
+-- the words of the open packet after one more; the checksum word ends the packet
 abbrev pub words_after : List ℕ → ℕ → List ℕ
 words_after (first ∷ second ∷ third ∷ did ∷ sdid ∷ count ∷ user) word =
     if nat_lt (length user) (count % 256) then first ∷ second ∷ third ∷ did ∷ sdid ∷ count ∷ (user ++ word ∷ []) else []
@@ -63,7 +63,7 @@ judge_half (Some high) words low = judge_word words (256 * high + low)
 abbrev pub judge_byte : Open → ℕ → Step WordPart
 judge_byte front byte = judge_half front.high front.words byte
 
--- what is open behind one more byte
+-- what is open after one more byte
 abbrev pub half_after : Option ℕ → List ℕ → ℕ → Open
 half_after None words high = record { high = Some high; words = words }
 half_after (Some high) words low = record { high = None; words = words_after words (256 * high + low) }

@@ -7,14 +7,14 @@ use Rattle.cc_base.specs.declared.why.Why.TheVariants as why
 use Rattle.anc_words.specs.Checksums.{IsChecksum}
 use Rattle.anc_words.specs.EightBitWords.{IsEightBit}
 
--- behind these words stands this word of the flag
+-- after these words stands this word of the flag
 abbrev pub FlagIsNext : List ℕ → ℕ → Type 0
 FlagIsNext [] flag = flag ≡ 0x000
 FlagIsNext (first ∷ []) flag = flag ≡ 0x3FF
 FlagIsNext (first ∷ second ∷ []) flag = flag ≡ 0x3FF
 FlagIsNext _ flag = ⊥
 
--- behind these words stands an 8-bit word: DID, SDID, the count, or a user word of captions
+-- after these words stands an 8-bit word: DID, SDID, the count, or a user word of captions
 abbrev pub EightBitIsNext : List ℕ → Type 0
 EightBitIsNext (first ∷ second ∷ third ∷ []) = ⊤
 EightBitIsNext (first ∷ second ∷ third ∷ did ∷ []) = ⊤
@@ -23,13 +23,13 @@ EightBitIsNext (first ∷ second ∷ third ∷ did ∷ sdid ∷ count ∷ user) 
     (length user < count % 256) × (did % 256 ≡ 0x61) × (sdid % 256 ≡ 0x01)
 EightBitIsNext _ = ⊥
 
--- behind these words, as many user words among them as the count says, stands the checksum word of these
+-- after these words, as many user words among them as the count says, stands the checksum word of these
 abbrev pub ChecksumIsNext : List ℕ → List ℕ → Type 0
 ChecksumIsNext (first ∷ second ∷ third ∷ did ∷ sdid ∷ count ∷ user) summed =
     (count % 256 ≤ length user) × (summed ≡ did ∷ sdid ∷ count ∷ user)
 ChecksumIsNext _ summed = ⊥
 
--- behind these words no packet goes on with this word, for this reason: it is above 3FF, or else it isn't the flag's word, no 8-bit
+-- after these words no packet can continue with this word, for this reason: it is above 3FF, or else it isn't the flag's word, no 8-bit
 -- word, or not the checksum word, where one of these stands
 abbrev pub WordOffends : List ℕ → ℕ → Why → Type 0
 WordOffends words word why.HighBits = 0x400 ≤ word

@@ -51,7 +51,7 @@ impl<'a> CaptionPacket<'a> {
     }
 
     /// Puts the bytes that it carries, those in bits 7 to 0 of its user words, into the front of `out`, and gives their
-    /// number, at most 255. What stands behind them in `out` is as it was.
+    /// number, at most 255. What follows them in `out` is as it was.
     pub fn user_bytes(&self, out: &mut [u8; 255]) -> usize
         ensures len { result ≡ length (carried_by self.now) }
         ensures few { result ≤ 255 }

@@ -75,8 +75,8 @@ pub fn captions_ahead_are_found_one_way()
         → size ≡ 2 * length user + 14 }
 {}
 
-/// What was written is read back: where a packet stands at the front of the bytes written and of any bytes behind
-/// them, it has the identifiers and carries the user bytes that were given, and those bytes are left behind it.
+/// What was written is read back: where a packet stands at the front of the bytes written and of any bytes after
+/// them, it has the identifiers and carries the user bytes that were given, and those bytes are left after it.
 pub fn written_is_read()
     ensures { (did sdid : ℕ) (user : List ℕ) (packet : AncillaryPacket) (front rest after : List ℕ)
         → did < 256 → sdid < 256 → length user ≤ 255 → All (λ byte. byte < 256) user
@@ -92,7 +92,7 @@ pub fn files_are_read_one_way()
         → IsWordsFile packets bytes → IsWordsFile others bytes → packets ≡ others }
 {}
 
-/// No bytes are a file of no packet, a packet's bytes are a file, a file behind a file is a file, and a file is its first
+/// No bytes are a file of no packet, a packet's bytes are a file, a file after a file is a file, and a file is its first
 /// packet and the file of the others.
 pub fn files_are_joined()
     ensures none { IsWordsFile [] [] }
@@ -107,7 +107,7 @@ pub fn files_are_joined()
         × IsPacketBytes packet front × IsWordsFile packets rest }
 {}
 
-/// A file is read: none of its words is refused, they make the parts of its packets, and nothing is open behind them. Under a
+/// A file is read: none of its words is refused, they make the parts of its packets, and nothing is open after them. Under a
 /// layer that takes these parts they are handed upward, and there is no refusal.
 pub fn files_are_read()
     ensures read { (packets : List AncillaryPacket) (bytes : List ℕ) → IsWordsFile packets bytes
@@ -119,7 +119,7 @@ pub fn files_are_read()
         ≡ record { parts = flat_map packet_parts packets; refusal = None } }
 {}
 
-/// What is read is a file: bytes of which no word is refused and behind which nothing is open are packets. Where there is no
+/// What is read is a file: bytes of which no word is refused and after which nothing is open are packets. Where there is no
 /// refusal, no word was refused, and the layer above took all parts.
 pub fn what_is_read_is_a_file()
     ensures file { (bytes : List ℕ) → All (λ byte. byte < 256) bytes → AllRead anc_syntax bytes

@@ -23,11 +23,11 @@ pub(crate) enum Next {
     MoreOnes,
     /// The data identifier.
     Did,
-    /// The secondary data identifier, behind this data identifier.
+    /// The secondary data identifier, after this data identifier.
     Sdid { did: u8 },
-    /// The count, behind these identifiers.
+    /// The count, after these identifiers.
     Count { did: u8, sdid: u8 },
-    /// A user word, in a packet of captions or another one; so many more come behind it.
+    /// A user word, in a packet of captions or another one; this many more follow it.
     User { is_caption: bool, more: u8 },
     /// The checksum word.
     Checksum,
@@ -45,7 +45,7 @@ pub(crate) struct OpenPacket {
     ghost nine_bits: { sum < 512 },
 }
 
-// What comes next where so many user words are left.
+// What comes next where this many user words are left.
 fn users(is_caption: bool, left: u8) -> Next
     ensures { result ≡ (if left == 0 then next.Checksum else next.User is_caption (left - 1)) }
 {
@@ -114,7 +114,7 @@ impl OpenPacket {
         Step::Nothing
     }
 
-    // Goes on behind a word that the checksum goes over.
+    // Goes on after a word that the checksum goes over.
     fn summed(&mut self, word: u16, next: Next, step: Step<WordPart>) -> Step<WordPart>
         ensures says { result ≡ step }
         ensures next { self.new.next ≡ next }
@@ -155,7 +155,7 @@ impl OpenPacket {
         Step::One(WordPart::End)
     }
 
-    // Judges the next word, and goes on behind it where it isn't refused.
+    // Judges the next word, and goes on after it where it isn't refused.
     fn word(&mut self, word: u16) -> Step<WordPart>
         ensures says { (words : List ℕ) → self.old.next ≡ next_of words
             → self.old.sum ≡ sum_of words → result ≡ judge_word words word }

@@ -71,7 +71,7 @@ pub(crate) fn value(bytes: [u8; 2]) -> u16
     u16::from(bytes[0]) * 256 + u16::from(bytes[1])
 }
 
-/// The low one of a word's two bytes. It is taken from the word, since LLVM reads words one behind another in one load,
+/// The low one of a word's two bytes. It is taken from the word, since LLVM reads words one after another in one load,
 /// and every second byte in a load each.
 #[inline]
 pub(crate) fn low_byte(bytes: [u8; 2]) -> u8

@@ -12,7 +12,7 @@ use Rattle.cdp_packets.proofs.SectionLemmas.{length-section, split_same}
 abbrev pub read_as : List ℕ → Triplet
 read_as bytes = triplet_of (get_or bytes 0 0) (get_or bytes 1 0) (get_or bytes 2 0)
 
--- three bytes are read, and those behind them
+-- three bytes are read, and those after them
 pub three_read : (bytes three more : List ℕ) → three ≡ take 3 bytes → more ≡ drop 3 bytes → length more + 3 ≡ length bytes
     → read_as three ∷ triplets_of more ≡ triplets_of bytes
 three_read [] three more front back long = absurd (omega (arith, long))
@@ -40,7 +40,7 @@ no_section : (section behind : List ℕ) → IsSection section → [] ≡ sectio
 no_section [] behind is none = is
 no_section (_ ∷ section) behind is none = cc
 
--- behind one more section
+-- after one more section
 pub way_next : (cut : List (List ℕ)) (rest bytes section behind : List ℕ) → AreOnTheWay cut rest bytes → IsSection section → rest ≡ section ++ behind
     → AreOnTheWay cut behind (bytes ++ section_triplet_bytes section)
 way_next cut rest bytes section behind way is spelled =

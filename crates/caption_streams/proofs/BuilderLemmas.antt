@@ -18,7 +18,7 @@ counted : (ahead : Option FrameBytes) → IsSome ahead → count_of ahead ≡ 1
 counted (Some bytes) some = refl
 counted None some = cc
 
--- the plan gives the frames behind it
+-- the plan gives the frames after it
 behind_it : (columns : Columns) (frame : ℕ) (plan : Plan) (ahead : Option FrameBytes) → IsSome ahead → IsAhead columns frame plan ahead → GivesFrom columns (frame + 1) plan
 behind_it columns frame plan (Some bytes) some is = is.1
 behind_it columns frame plan None some is = cc
@@ -39,7 +39,7 @@ made_next make list placed frame b bytes made is e makes =
     let ahead = subst (λ (o : Option FrameBytes). IsAhead columns frame b.plan o) e is.gives in
     makes list.rate frame before is.at ∙ ap (make list.rate frame before) ahead.0
 
--- the carrier is then at the frame behind it
+-- the carrier is then at the frame after it
 pub carried_next : (list : Listing) (placed : Placement) (frame : ℕ) (b : Building) (bytes : FrameBytes) (carrier : Carrier)
     → IsBuilding list placed frame b → b.ahead ≡ Some bytes
     → ((rate : Rate) (number count : ℕ) → IsAt rate number count b.carrier → IsAt rate (number + 1) (count + packet_count bytes.blocks.items) carrier)
@@ -51,7 +51,7 @@ carried_next list placed frame b bytes carrier is e moves =
     ap (λ (p : FrameBytes). before + packet_count p.blocks.items) ahead.0 ∙ ap (packets_before columns) (sym (add-one frame)) in
     subst (λ n. IsAt list.rate (frame + 1) n carrier) packets (moves list.rate frame before is.at)
 
--- the plan gives the frame behind it, or there is none
+-- the plan gives the frame after it, or there is none
 pub passed : (list : Listing) (placed : Placement) (frame : ℕ) (b : Building) (plan : Plan) (carrier : Carrier) (ahead : Option FrameBytes)
     → IsBuilding list placed frame b → IsSome b.ahead
     → MatchOption ahead (frames_left b.plan ≡ 0) (λ next. frames_left plan + 1 ≡ frames_left b.plan)

@@ -38,7 +38,7 @@ pub shows_behind : (reception : Reception) (frames : List Frame) → StandsBehin
 shows_behind (Plain receiver) frames behind = seen_behind frames receiver behind
 shows_behind (Concealing concealer) frames conceals = record { frames = frames; conceals = conceals; seen_are = refl }
 
--- behind no frame the number is 0
+-- after no frame the number is 0
 pub none_yet : (reception : Reception) (frames : List Frame) → StandsBehind frames reception → frame_total reception ≡ 0 → 0 ≡ number_behind reception frames
 none_yet (Plain receiver) frames behind none =
     let count = frames_count frames behind.bytes receiver behind.received behind.frames_are in omega arith

@@ -26,7 +26,7 @@ count_of (Some bytes) = 1
 abbrev pub frames_to_come : Building → ℕ
 frames_to_come building = count_of building.ahead + frames_left building.plan
 
--- this is the next frame of columns, and the plan gives those behind it; or there is none
+-- this is the next frame of columns, and the plan gives those after it; or there is none
 abbrev pub IsAhead : Columns → ℕ → Plan → Option FrameBytes → Type 0
 IsAhead columns frame plan (Some bytes) = (bytes ≡ columns frame) × GivesFrom columns (frame + 1) plan
 IsAhead columns frame plan None = frames_left plan ≡ 0
@@ -59,7 +59,7 @@ pub record Begins (bytes : List ℕ) (building : Building) : Type 0 where
   pub accepted : IsAccepted bytes list placed
   pub is : IsBuilding list placed 0 building
 
--- this frame is the next one, these bytes are what it has, and behind it the carrier is this one; or there is none
+-- this frame is the next one, these bytes are what it has, and after it the carrier is this one; or there is none
 pub record HasCarried (list : Listing) (placed : Placement) (frame : ℕ) (packet : List ℕ) (building : Building) (bytes : List ℕ) (carrier : Carrier) : Type 0 where
   pub some : IsSome building.ahead
   pub bytes_are : bytes ≡ packet
@@ -69,7 +69,7 @@ abbrev pub IsCarriedNext : Listing → Placement → ℕ → List ℕ → Buildi
 IsCarriedNext list placed frame packet building bytes (Some carrier) = HasCarried list placed frame packet building bytes carrier
 IsCarriedNext list placed frame packet building bytes None = frame ≡ list.frames
 
--- what the next frame has stands at the front of the output, whose other bytes are as they were, and the builder is behind the frame
+-- what the next frame has stands at the front of the output, whose other bytes are as they were, and the builder is after the frame
 pub record HasGiven (list : Listing) (placed : Placement) (frame : ℕ) (packet before after : List ℕ) (count : ℕ) (new : Building) : Type 0 where
   pub more : frame < list.frames
   pub count_is : count ≡ length packet

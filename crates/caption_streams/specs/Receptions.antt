@@ -1,5 +1,5 @@
 -- Believed in part: the library's answers stand on some of these definitions.
--- What a receiver is behind the bytes that it was fed, and what it shows behind their frames: one of whole files, or one of words of which
+-- What a receiver is after the bytes that it was fed, and what it shows after their frames: one of whole files, or one of words of which
 -- frames may be missing.
 use Rattle.std.specs.Prelude.{◌≡◌, ◌≤◌, ℕ, ◌-◌, ◌++◌, ⊤, List, length, take, Option, Result, Ok, Err}
 use Rattle.cc_base.specs.declared.refusal.Refusal.{Refusal}
@@ -29,7 +29,7 @@ abbrev pub HasFed : List ℕ → Reception → Type 0
 HasFed bytes (Plain receiver) = HasReceived bytes receiver
 HasFed bytes (Concealing concealer) = HasConcealed bytes concealer
 
--- it stands behind these frames
+-- it follows these frames
 abbrev pub StandsBehind : List Frame → Reception → Type 0
 StandsBehind frames (Plain receiver) = IsBehind frames receiver
 StandsBehind frames (Concealing concealer) = Conceals frames concealer
@@ -74,7 +74,7 @@ AnswersFed before bytes old new (Err (fault.Refused refusal)) = FeedsOn before b
 AnswersFed before bytes old new (Err (fault.Found finding)) = ⊥
 AnswersFed before bytes old new (Err fault.TooManyFrames) = (new ≡ old) × (4294967295 ≤ frame_total old)
 
--- the displayed cells of each channel behind frames, and each service: those that are received, or those that are concealed
+-- the displayed cells of each channel after frames, and each service: those that are received, or those that are concealed
 abbrev pub grids_behind : Reception → List Frame → Chan → Grid
 grids_behind (Plain receiver) frames = received_grids frames
 grids_behind (Concealing concealer) frames = concealed_grids frames

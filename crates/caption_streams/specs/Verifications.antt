@@ -1,5 +1,5 @@
 -- Believed: the library's answers stand on these definitions.
--- What a verifier is behind the bytes that it was fed, and its verdict on them.
+-- What a verifier is after the bytes that it was fed, and its verdict on them.
 use Rattle.std.specs.Prelude.{◌≡◌, ◌≤◌, ℕ, List, [], ◌++◌, take, Option, None, Some, Result, Ok, Err}
 use Rattle.cc_base.specs.declared.refusal.Refusal.{Refusal}
 use Rattle.cc_receiver.specs.declared.receiver.Fed.{Fed}

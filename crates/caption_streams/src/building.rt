@@ -27,9 +27,9 @@ pub enum FrameForm {
 /// What came of asking a builder for its next frame.
 #[derive(Clone, Copy, PartialEq, Eq)]
 pub enum NextFrame {
-    /// So many bytes of it stand in the output.
+    /// This many bytes of it stand in the output.
     Given(usize),
-    /// It has so many bytes, and the output has fewer.
+    /// It has this many bytes, and the output has fewer.
     NoRoom(usize),
     /// There is no further frame.
     Over,
@@ -86,7 +86,7 @@ impl Building {
         }
     }
 
-    // Writes the next frame, if there is one, into empty `bytes`: the carrier behind it.
+    // Writes the next frame, if there is one, into empty `bytes`: the carrier after it.
     fn carry(&self, form: FrameForm, bytes: &mut ArrayVec<u8, 524>) -> Option<Carrier>
         requires { bytes.old.items ≡ [] }
         ensures next { (list : Listing) (placed : Placement) (frame : ℕ)
@@ -101,7 +101,7 @@ impl Building {
         }
     }
 
-    // Writes the ancillary packet of the next frame, if there is one, into an empty `words`: the carrier behind it.
+    // Writes the ancillary packet of the next frame, if there is one, into an empty `words`: the carrier after it.
     fn carry_words(&self, words: &mut ArrayVec<u8, 524>) -> Option<Carrier>
         requires { words.old.items ≡ [] }
         ensures next { (list : Listing) (placed : Placement) (frame : ℕ)
@@ -136,7 +136,7 @@ impl Building {
         Some(carrier)
     }
 
-    // Gives the bytes of the next frame, behind which the carrier is this one.
+    // Gives the bytes of the next frame, after which the carrier is this one.
     fn give(&mut self, bytes: &[u8], carrier: Carrier, out: &mut [u8]) -> NextFrame
         ensures { (list : Listing) (placed : Placement) (frame : ℕ) (packet : List ℕ)
             → IsBuilding list placed frame self.old
@@ -151,7 +151,7 @@ impl Building {
         NextFrame::Given(bytes.len())
     }
 
-    // Passes to the frame behind the next one.
+    // Passes to the frame after the next one.
     fn pass(&mut self, carrier: Carrier)
         ensures { (list : Listing) (placed : Placement) (frame : ℕ)
             → IsBuilding list placed frame self.old → IsSome self.old.ahead

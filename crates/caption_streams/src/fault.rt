@@ -4,7 +4,7 @@ use findings::Finding;
 /// Why bytes that were fed aren't read on.
 #[derive(Clone, Copy, PartialEq, Eq)]
 pub enum FeedFault {
-    /// This word is refused: no file goes on with it.
+    /// This word is refused: no file can continue with it.
     Refused(Refusal),
     /// This was found, at a frame that ended before.
     Found(Finding),

@@ -15,7 +15,7 @@ pub(crate) struct Front {
 }
 
 impl Front {
-    // A sink with room for so many bytes, whose memory is taken here.
+    // A sink with room for this many bytes, whose memory is taken here.
     pub(crate) fn new(alloc: Global, room: usize) -> Result<Front, AllocError>
         ensures kept { IfOk result (λ front. front.bytes.items ≡ []) }
         ensures room { IfOk result (λ front. front.room ≡ room) }

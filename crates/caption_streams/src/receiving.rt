@@ -29,7 +29,7 @@ impl Receiving {
     ghost use Rattle.caption_streams.specs.Receivings.{last_screens, reception_of};
     ghost use Rattle.caption_streams.specs.Receptions.{AnswersFed, IsConcealing, IsPlain, StandsBehind, number_behind, screens_behind};
 
-    /// A receiver that was fed nothing, of words of which no frame is missing; nothing was put. The error comes where memory isn't found.
+    /// A receiver that was fed nothing, of words of which no frame is missing; nothing was put. The error comes if memory isn't found.
     pub fn new(alloc: Global) -> Result<Receiving, AllocError>
         ensures plain { IfOk result (λ made. IsPlain (reception_of made)) }
         ensures fed { IfOk result (λ made. HasFed [] (reception_of made)) }
@@ -64,8 +64,8 @@ impl Receiving {
         &self.reception
     }
 
-    /// Reads the next bytes, up to the end of an ancillary packet: it stops behind the word that ends one. TooManyFrames comes where
-    /// 4,294,967,295 frames have ended; Refused where no file goes on with a word, and from then on.
+    /// Reads the next bytes, up to the end of an ancillary packet: it stops after the word that ends one. TooManyFrames comes if
+    /// 4,294,967,295 frames have ended; Refused where no file can continue with a word, and from then on.
     pub fn feed(&mut self, bytes: &[u8]) -> Result<Fed, FeedFault>
         requires { (before : List ℕ) × HasFed before (reception_of self.old) }
         ensures feeds { (before : List ℕ) → HasFed before (reception_of self.old)
@@ -84,7 +84,7 @@ impl Receiving {
         }
     }
 
-    /// Puts the text of what changed from the screens that were put last to those behind the last whole frame, as `decode` prints it, or
+    /// Puts the text of what changed from the screens that were put last to those after the last whole frame, as `decode` prints it, or
     /// `conceal`; it is empty where nothing changed. These screens are then the ones that were put last, where the put fails too.
     pub fn put_changes<O: Sink>(&mut self, out: &mut O) -> Put
         ensures bytes { (frames : List Frame) → StandsBehind frames (reception_of self.old)
@@ -100,7 +100,7 @@ impl Receiving {
         self.shown.put_changes_of(&self.reception, number, out)
     }
 
-    /// The front of that text, of so many bytes at most. These screens are then the ones that were put last. The error comes where memory
+    /// The front of that text, of this many bytes at most. These screens are then the ones that were put last. The error comes if memory
     /// isn't found, and then nothing changed.
     pub fn front_of_changes(&mut self, alloc: Global, most: usize) -> Result<Vec<u8>, AllocError>
         ensures text { (frames : List Frame) → StandsBehind frames (reception_of self.old)
@@ -118,7 +118,7 @@ impl Receiving {
         Ok(front.into_bytes())
     }
 
-    /// Puts the text of all screens behind the last whole frame, as `show` prints it; behind no frame, with the number 0.
+    /// Puts the text of all screens after the last whole frame, as `show` prints it; after no frame, with the number 0.
     pub fn put_screens<O: Sink>(&self, out: &mut O) -> Put
         ensures bytes { (frames : List Frame) → StandsBehind frames (reception_of self.now)
             → Puts (O.written out.old) (O.written out.new) result
@@ -129,7 +129,7 @@ impl Receiving {
         put_all_of(&self.reception, self.last_number(), out)
     }
 
-    /// The front of that text, of so many bytes at most. The error comes where memory isn't found.
+    /// The front of that text, of this many bytes at most. The error comes if memory isn't found.
     pub fn front_of_screens(&self, alloc: Global, most: usize) -> Result<Vec<u8>, AllocError>
         ensures { (frames : List Frame) → StandsBehind frames (reception_of self.now)
             → IfOk result (λ front. front.items ≡ take most

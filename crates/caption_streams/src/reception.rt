@@ -28,7 +28,7 @@ impl Reception {
     ghost use Rattle.caption_streams.specs.Receptions.{FeedsOn, HasFed, StandsBehind, frame_total, grids_behind, missing_behind, number_behind, service_behind};
 
     /// Reads the next bytes, up to the end of an ancillary packet. Fewer than 4,294,967,295 frames have ended before. A word is refused
-    /// where no file goes on with it; a refusal is kept and answered from then on, with nothing read.
+    /// where no file can continue with it; a refusal is kept and answered from then on, with nothing read.
     pub fn feed(&mut self, bytes: &[u8]) -> Result<Fed, Refusal>
         requires few { frame_total self.now < 4294967295 }
         requires on { (before : List ℕ) × HasFed before self.old }
@@ -70,7 +70,7 @@ impl Reception {
         }
     }
 
-    /// The displayed cell of a channel at a row, 1 to 15, and a column, 0 to 31, behind the last whole frame (CTA-608-E; 47 CFR 79.101).
+    /// The displayed cell of a channel at a row, 1 to 15, and a column, 0 to 31, after the last whole frame (CTA-608-E; 47 CFR 79.101).
     pub fn cell(&self, chan: Chan, row: u8, col: u8) -> Option<Cell>
         requires row_from { 1 ≤ row }
         requires row_to { row ≤ 15 }
@@ -84,7 +84,7 @@ impl Reception {
         }
     }
 
-    /// The displayed memory of a channel behind the last whole frame (CTA-608-E; 47 CFR 79.101).
+    /// The displayed memory of a channel after the last whole frame (CTA-608-E; 47 CFR 79.101).
     pub fn displayed(&self, chan: Chan) -> &Memory
         ensures { (frames : List Frame) → StandsBehind frames self.now
             → grid_in result.now ≡ grids_behind self.now frames chan }
@@ -92,7 +92,7 @@ impl Reception {
         Grids::displayed(self, chan)
     }
 
-    /// The window of an id of a service, 1 to 63, behind the last whole frame, where there is one (CTA-708-E).
+    /// The window of an id of a service, 1 to 63, after the last whole frame, where there is one (CTA-708-E).
     pub fn window(&self, service: u8, id: u8) -> Option<&Window>
         requires { IsService service }
         ensures window { (frames : List Frame) → StandsBehind frames self.now

@@ -37,8 +37,8 @@ impl Verifying {
         }
     }
 
-    /// Reads the next bytes, up to the end of an ancillary packet: it stops behind the word that ends one. Found comes where something was
-    /// found, at a frame that ended before; TooManyFrames where 4,294,967,295 frames have ended; Refused where no file goes on with a word,
+    /// Reads the next bytes, up to the end of an ancillary packet: it stops after the word that ends one. Found comes if something was
+    /// found, at a frame that ended before; TooManyFrames where 4,294,967,295 frames have ended; Refused where no file can continue with a word,
     /// and from then on.
     pub fn feed(&mut self, bytes: &[u8]) -> Result<Fed, FeedFault>
         requires { (before : List ℕ) × HasVerified before (verifier_of self.old) }

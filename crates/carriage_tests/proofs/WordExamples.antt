@@ -54,7 +54,7 @@ pub is_cut_short : (bytes : List ℕ) → are_bytes bytes ≡ true → refusal_o
     → some_open (open_behind anc_syntax bytes).high (open_behind anc_syntax bytes).words ≡ true → IsCutShort (layers_of never) bytes (truncated bytes)
 is_cut_short bytes test none opens = open_cut_short bytes (bytes-are bytes test) none opens
 
--- something is open behind each number of bytes from 1 up to this one
+-- something is open after each number of bytes from 1 up to this one
 abbrev opens_up_to : List ℕ → ℕ → Bool
 opens_up_to bytes zero = true
 opens_up_to bytes (suc n) =

@@ -10,7 +10,7 @@ fn take(rt: &impl Abort, reader: &mut MccReader, bytes: &[u8]) {
     }
 }
 
-// The frame, the number of bytes and the length of the packet's line that is read in one go behind a head and lines, where another was read
+// The frame, the number of bytes and the length of the packet's line that is read in one go after a head and lines, where another was read
 // before.
 fn line_behind(
     rt: &impl Abort,

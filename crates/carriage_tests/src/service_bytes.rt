@@ -15,14 +15,14 @@ ghost use Rattle.carriage_tests.specs.ExampleFrames.{example_frame};
 ghost use Rattle.services_files.specs.CaptionChannel.{caption_channel};
 ghost use Rattle.services_files.specs.Said.{said_behind, said_in};
 
-// The third triplet of the frame is FF 02 3F: it starts a packet with three bytes behind its header, and the first of these is the
+// The third triplet of the frame is FF 02 3F: it starts a packet with three bytes after its header, and the first of these is the
 // header of a block of 31 bytes. It offends in its own word, the third of the triplet.
 fn a_header_overruns_in_a_third_byte()
     ensures { FirstOffendingWord caption_channel (take 42 frame_without_captions ++ flat_map word_bytes (0x2FF ∷ 0x102 ∷ 0x23F ∷ []))
         (record { place = 46; why = why.Overrun }) }
 {}
 
-// Behind FF 02 20, a packet with three bytes of which the first is a header without a block, FE 22 goes on: 22 is the header of a
+// After FF 02 20, a packet with three bytes of which the first is a header without a block, FE 22 goes on: 22 is the header of a
 // block of two bytes where one is left. It offends in its own word, the second of the triplet.
 fn a_header_overruns_in_a_second_byte()
     ensures { FirstOffendingWord caption_channel (take 42 frame_without_captions ++ flat_map word_bytes (0x2FF ∷ 0x102 ∷ 0x120 ∷ 0x1FE ∷ 0x222 ∷ []))
@@ -39,7 +39,7 @@ fn each_service_is_given_its_bytes()
 {}
 
 // Two packets of three bytes: 02 with 22 41 42, a block of two bytes of service 1, and after a gap 82 with 43 44 45, whose block of
-// service 2 says three bytes and is cut short after two. Behind the first packet, the second one says its own bytes and the reset.
+// service 2 says three bytes and is cut short after two. After the first packet, the second one says its own bytes and the reset.
 fn triplets_say_what_their_blocks_say()
     ensures all { said_in (starting 0x02 0x22 ∷ continuing 0x41 0x42 ∷ starting 0x82 0x43 ∷ continuing 0x44 0x45 ∷ [])
         ≡ part.Byte 1 0x41 ∷ part.Byte 1 0x42 ∷ part.Reset ∷ part.Byte 2 0x44 ∷ part.Byte 2 0x45 ∷ [] }

@@ -36,7 +36,7 @@ reading-refused judge verdict place before above item items why refused =
     ap (λ (why : Option Why). read_first (refused_at (place before) why) handed.parts
     (reading judge verdict place (before ++ item ∷ []) (above ++ handed.parts) items)) refused
 
--- the same behind an item, refused or not
+-- the same after an item, refused or not
 reading-append-item : {I P : Type 0} (judge : Judge I P) (verdict : Verdict P) (place : List I → ℕ) (before : List I) (above : List P) (item : I) (first second : List I)
     (parts : List P) (refusal : Option Refusal)
     → reading judge verdict place (before ++ item ∷ []) (above ++ parts) (first ++ second)

@@ -7,7 +7,7 @@ use Rattle.cc_base.specs.declared.why.Why.{Why}
 use Rattle.cc_base.specs.Feeding.{Verdict, Handed, Reading, hand, hand_first, read_first, refused_at}
 use Rattle.cc_base.specs.Steps.{AreAccepted, IsTaken, front_from, step_parts, step_why}
 
--- the front behind more items
+-- the front after more items
 pub front_from-append : {Front I : Type 0} (after : Front → I → Front) (front : Front) (items more : List I)
     → front_from after front (items ++ more) ≡ front_from after (front_from after front items) more
 front_from-append after front [] more = refl

@@ -43,7 +43,7 @@ Reads-one syntax front item step behind judged is after = record {
   leads = after;
 }
 
--- an item, and others behind it
+-- an item, and others after it
 pub Reads-item : {Front I P : Type 0} (syntax : Syntax Front I P) (front : Front) (item : I) (items : List I) (step : Step P) (next : Front) (parts : List P) (behind : Front)
     → syntax.judge front item ≡ step → IsTaken step → syntax.after front item ≡ next → Reads syntax next items parts behind
     → Reads syntax front (item ∷ items) (step_parts step ++ parts) behind
@@ -69,7 +69,7 @@ Reads-append syntax front items parts middle more others behind first second = r
   leads = front_from-append syntax.after front items more ∙ ap (λ f. front_from syntax.after f more) first.leads ∙ second.leads;
 }
 
--- the same parts, and the same behind them
+-- the same parts, and the same after them
 pub Reads-is : {Front I P : Type 0} (syntax : Syntax Front I P) (front : Front) (items : List I) (parts others : List P) (behind other : Front)
     → parts ≡ others → behind ≡ other → Reads syntax front items parts behind → Reads syntax front items others other
 Reads-is syntax front items parts others behind other made leads reads =

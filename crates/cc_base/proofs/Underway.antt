@@ -99,7 +99,7 @@ Underway-refused syntax Matches verdict Took unit before above input k machine t
     ∙ ap (λ s. let r : Reading _ = record { parts = u.handed ++ (hand verdict (above ++ u.handed) s).parts; refusal = Some (record { place = place_by unit done; why = why }) } in r) (sym says)
     ∙ ap (λ n. let r : Reading _ = record { parts = u.handed ++ (hand verdict (above ++ u.handed) step).parts; refusal = Some (record { place = n - n % unit; why = why }) } in r) (sym u.counted)
 
--- behind the last item
+-- after the last item
 pub Underway-end : {Front I P M U : Type 0} (syntax : Syntax Front I P) (Matches : Front → M → Type 0) (verdict : Verdict P) (Took : List P → U → Type 0) (unit : ℕ)
     (before : List I) (above : List P) (input : List I) (k : ℕ) (machine : M) (taken : ℕ) (up : U)
     (u : Underway syntax Matches verdict Took unit before above input k machine taken up)

@@ -28,7 +28,7 @@ writer_faults s = s.faults
 abbrev pub one_more_fault : ℕ → ℕ
 one_more_fault faults = min (faults + 1) (2 ^ 64 - 1)
 
--- a read that gave so many bytes, or failed: 0 bytes are the end
+-- a read that gave this many bytes, or failed: 0 bytes are the end
 abbrev pub read_answer : Option ℕ → Took
 read_answer None = took.Failed
 read_answer (Some zero) = took.End
@@ -38,7 +38,7 @@ abbrev pub read_count : Option ℕ → ℕ → ℕ
 read_count None faults = one_more_fault faults
 read_count (Some n) faults = faults
 
--- a write that took so many bytes, or failed: one that took 0 bytes is a fault too
+-- a write that took this many bytes, or failed: one that took 0 bytes is a fault too
 abbrev pub write_answer : Option ℕ → Option ℕ
 write_answer None = None
 write_answer (Some zero) = None

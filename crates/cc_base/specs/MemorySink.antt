@@ -36,7 +36,7 @@ puts_after puts n = if n == 0 then puts else min (puts + 1) (2 ^ 64 - 1)
 
 -- what a put of a piece of n bytes does to a sink over memory, beside what it does to any sink
 pub record PutsInMemory (old new : MemorySink) (answer : Put) (n : ℕ) : Type 0 where
-  -- it fails exactly where a put of so many bytes fails now
+  -- it fails exactly where a put of this many bytes fails now
   pub fails : (answer ≡ put.Failed) ↔ RefusesNow old n
   -- and then nothing is written
   pub nothing : answer ≡ put.Failed → sink_written new ≡ sink_written old

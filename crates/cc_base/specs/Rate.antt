@@ -65,6 +65,6 @@ triplets_in_frame rate.F60 = 10
 abbrev pub ceil_quotient : ℕ → ℕ → ℕ
 ceil_quotient a b = (a + (b - 1)) / b
 
--- the frames of a delay of so many tenths of a second
+-- the frames of a delay of this many tenths of a second
 abbrev pub delay_frames_of : Rate → ℕ → ℕ
 delay_frames_of r tenths = ceil_quotient (tenths * num_of r) (10 * den_of r)

@@ -38,7 +38,7 @@ PutCause before now put.Failed = (before ≤ now) × Rose before now
 abbrev pub PutsEmpty : Option (List ℕ) → Option (List ℕ) → Put → List ℕ → Type 0
 PutsEmpty old new answer piece = length piece ≡ 0 → (answer ≡ put.Done) × Keeps old new
 
--- at most so many bytes were taken
+-- at most this many bytes were taken
 abbrev pub TakesWithin : ℕ → Option (List ℕ) → Option (List ℕ) → Type 0
 TakesWithin limit old new = (taken : List ℕ) × Consumes old new taken × (length taken ≤ limit)
 

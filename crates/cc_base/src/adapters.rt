@@ -5,7 +5,7 @@ ghost use Rattle.cc_base.specs.Streams.{PutCause, TakeCause};
 use crate::streams::{Put, Sink, Source, Took};
 use std::io::{Read, Write};
 
-/// The answer of a take whose read gave so many bytes, or None where it failed, which is counted. 0 bytes are the end.
+/// The answer of a take whose read gave this many bytes, or None where it failed, which is counted. 0 bytes are the end.
 fn after_read(read: Option<usize>, faults: &mut u64) -> Took
     ensures answer { result ≡ read_answer read }
     ensures count { faults.new ≡ read_count read faults.old }

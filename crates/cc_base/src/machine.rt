@@ -27,7 +27,7 @@ pub trait Machine<I, P> {
 
     const UNIT: u64;
 
-    /// Judges the next item, and goes on behind it where it isn't refused.
+    /// Judges the next item, and goes on after it where it isn't refused.
     fn step(&mut self, item: I) -> Step<P>
         ensures says { (given : Given) (front : Front) → Matches given front self.old
             → result ≡ (syntax given).judge front item }
@@ -99,7 +99,7 @@ impl<M> Fed<M> {
         step
     }
 
-    // Refuses the next item, where so many items have one place, and keeps the refusal.
+    // Refuses the next item, where this many items have one place, and keeps the refusal.
     fn refuse(&mut self, unit: u64, why: Why) -> Refusal
         requires { 0 < unit }
         ensures refusal { result

@@ -22,7 +22,7 @@ pub struct MemorySink {
 impl MemorySink {
     ghost use Rattle.cc_base.specs.MemorySink.{sink_failing, sink_faults, sink_puts, sink_room, sink_written};
 
-    /// A sink of so many bytes, all of whose memory is taken here. A put of a piece that isn't empty fails exactly where
+    /// A sink of this many bytes, all of whose memory is taken here. A put of a piece that isn't empty fails exactly where
     /// `failing` has its number among such puts, counted from 0, or where the room would be passed; it then writes nothing.
     ///
     /// The number of a put stands still at `u64::MAX`, and a put of that number fails only for room.

@@ -104,7 +104,7 @@ impl Rate {
         }
     }
 
-    /// The frames of a delay of so many tenths of a second: the least number of frames that last as long.
+    /// The frames of a delay of this many tenths of a second: the least number of frames that last as long.
     pub fn delay_frames(self, tenths: u8) -> u32
         ensures value { result ≡ delay_frames_of self tenths }
         ensures as_long { tenths * num_of self ≤ result * (10 * den_of self) }

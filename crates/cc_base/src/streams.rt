@@ -4,7 +4,7 @@ ghost use Rattle.cc_base.specs.Streams.{PutCause, Puts, PutsEmpty, TakeCause, Ta
 /// What a take answered.
 #[derive(Clone, Copy, PartialEq, Eq)]
 pub enum Took {
-    /// So many bytes, at least one, stand at the front of the buffer.
+    /// This many bytes, at least one, stand at the front of the buffer.
     Got(usize),
     /// No byte is left.
     End,

@@ -35,7 +35,7 @@ pub enum Why {
     NoSuchTime,
     /// An SCC file's first line is another one.
     Header,
-    /// No line of an SCC file goes on with this byte.
+    /// No line of an SCC file can continue with this byte.
     SccSyntax,
     /// An SCC line's time code is before that of the line before.
     Backwards,
@@ -65,7 +65,7 @@ pub enum Why {
     FieldClash,
     /// A second list has another rate or another number of frames than the first, or a share.
     OtherList,
-    /// No line of an MCC file goes on with this byte.
+    /// No line of an MCC file can continue with this byte.
     MccSyntax,
     /// A packet's counter isn't the one before plus 1 modulo 65536.
     CounterJump,

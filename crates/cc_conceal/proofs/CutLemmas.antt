@@ -1,4 +1,4 @@
--- The frames that are heard begin behind the last jump of the counter.
+-- The frames that are heard begin after the last jump of the counter.
 use Rattle.std.proofs.Common.{◌≡◌, ◌∙◌, Bool, true, false, if◌then◌else◌, List, [], ◌∷◌, ◌++◌, reverse, refl, sym, ap, subst}
 use Rattle.std.proofs.lemmas.List.{reverse-append, reverse-reverse}
 use Rattle.cdp_packets.specs.Packets.{Frame}

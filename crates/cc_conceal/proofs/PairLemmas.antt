@@ -11,7 +11,7 @@ use Rattle.cdp_packets.specs.PacketTriplets.{packet_triplets}
 use Rattle.words_files.specs.Received.{field_pairs, received_pairs}
 use Rattle.cc_conceal.specs.Concealed.{concealed}
 
--- pairs behind pairs, the newest first
+-- pairs after pairs, the newest first
 pub turned_more : (ps qs before : List Pair) → reverse (map concealed (ps ++ qs)) ++ before ≡ reverse (map concealed qs) ++ (reverse (map concealed ps) ++ before)
 turned_more ps qs before =
     ap (λ (l : List Pair). reverse l ++ before) (map-append concealed ps qs)

@@ -119,7 +119,7 @@ kept_suffix frames next false =
     let w = heard_suffix frames in
     (w.0, ap (λ (l : List Frame). l ++ next ∷ []) w.1 ∙ append_assoc w.0 (heard_of frames) (next ∷ []))
 
--- behind bytes that bring no frame
+-- after bytes that bring no frame
 pub concealed_still : (before more : List ℕ) (old : Concealer) (new : Receiver) → HasConcealed before old → HasReceived (before ++ more) new
     → frame_count new ≡ frame_count old.receiver → HasConcealed (before ++ more) (record old { receiver = new })
 concealed_still before more old new had now counted =

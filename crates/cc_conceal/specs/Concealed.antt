@@ -21,7 +21,7 @@ use Rattle.cc_receiver.specs.ReceivedServices.{received_windows}
 abbrev pub goes_on : Frame → Frame → Bool
 goes_on former frame = frame.counter == (former.counter + 1) % 65536
 
--- of frames that stand newest first, the longest front in which each goes on from the one behind it
+-- of frames that stand newest first, the longest front in which each goes on from the one after it
 abbrev pub heard_back : List Frame → List Frame
 heard_back [] = []
 heard_back (frame ∷ []) = frame ∷ []
@@ -43,7 +43,7 @@ concealed pair =
     then (if is_odd pair.b then pair else if begins_no_text pair.a then null_pair else record { a = pair.a; b = 0x7F })
     else null_pair
 
--- a field behind frames: it was reset before those that are heard, and took what stands for their pairs (CTA-608-E; 47 CFR 79.101)
+-- a field after frames: it was reset before those that are heard, and took what stands for their pairs (CTA-608-E; 47 CFR 79.101)
 abbrev pub concealed_field : FieldNumber → List Frame → FieldState
 concealed_field in_field frames = after in_field (reverse (map concealed (received_pairs in_field (heard_of frames))))
 
@@ -56,11 +56,11 @@ concealed_grids frames chan = (channel (data_channel_of chan) (concealed_field (
 abbrev pub concealed_windows : List Frame → ℕ → ℕ → Option ShownWindow
 concealed_windows frames service id = received_windows (heard_of frames) service id
 
--- how many frames one comes behind the former: the difference of their counters modulo 65,536, with 65,536 in place of 0
+-- how many frames one follows the former: the difference of their counters modulo 65,536, with 65,536 in place of 0
 abbrev pub distance : ℕ → ℕ → ℕ
 distance former counter = let d = (counter + 65536 - former) % 65536 in if d == 0 then 65536 else d
 
--- the number of the last frame: the counter of the first one, and so many more as the counters tell
+-- the number of the last frame: the counter of the first one, and as many more as the counters tell
 abbrev pub frame_number_behind : ℕ → Frame → List Frame → ℕ
 frame_number_behind number former [] = number
 frame_number_behind number former (frame ∷ frames) = frame_number_behind (number + distance former.counter frame.counter) frame frames

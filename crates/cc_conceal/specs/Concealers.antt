@@ -1,5 +1,5 @@
 -- Believed in part: the library's answers stand on some of these definitions.
--- What a concealing receiver is, behind the bytes that it was fed.
+-- What a concealing receiver is, after the bytes that it was fed.
 use Rattle.std.specs.Prelude.{◌≡◌, ◌≤◌, ℕ, ◌+◌, ◌-◌, ◌*◌, ◌%◌, ◌==◌, not, Bool, true, false, if◌then◌else◌, List, [], ◌∷◌, ◌++◌, length, map, reverse, take, Option, Some, None, Result, Ok, Err}
 use Rattle.cc_base.specs.declared.refusal.Refusal.{Refusal}
 use Rattle.line21_codes.specs.Channels.{data_channel_of, field_of_channel}
@@ -85,7 +85,7 @@ pub record AreServed (heard : List Frame) (served : Served) : Type 0 where
   pub leads : LeadFromReset heard earlier last
   pub before : (others : List Frame) (newest : Frame) → heard ≡ others ++ newest ∷ [] → LeadBefore others earlier
 
--- the fields are behind these frames, as if they had been reset before them; so are its own services, which take frames from the first
+-- the fields are after these frames, as if they had been reset before them; so are its own services, which take frames from the first
 -- jump on
 pub record IsBehind (heard : List Frame) (concealer : Concealer) : Type 0 where
   pub first : fields.Leads One (reverse (map concealed (received_pairs One heard))) concealer.first
@@ -93,7 +93,7 @@ pub record IsBehind (heard : List Frame) (concealer : Concealer) : Type 0 where
   pub apart : concealer.apart ≡ true → AreServed heard concealer.served
   pub beside : concealer.apart ≡ false → AreServed [] concealer.served
 
--- frames acted: it is behind those since the last jump
+-- frames acted: it is after those since the last jump
 pub record HasActed (frames : List Frame) (concealer : Concealer) : Type 0 where
   pub counter : IsLastCounter frames concealer.counter
   pub behind : IsBehind (heard_of frames) concealer

@@ -16,7 +16,7 @@ GoOn [] = ⊤
 GoOn (frame ∷ []) = ⊤
 GoOn (frame ∷ (next ∷ frames)) = (goes_on frame next ≡ true) × GoOn (next ∷ frames)
 
--- the counter jumps between frames and those behind them, where there are both
+-- the counter jumps between frames and those after them, where there are both
 abbrev pub JumpsBetween : List Frame → List Frame → Type 0
 JumpsBetween before behind = (earlier : List Frame) (former next : Frame) (later : List Frame) → before ≡ earlier ++ former ∷ [] → behind ≡ next ∷ later
     → goes_on former next ≡ false

@@ -25,7 +25,7 @@ use line21_screen::{Field, Memory};
 use std::alloc::{AllocError, Global};
 
 /// The receiver of a words file of which frames may be missing, or in which bytes of line 21 have bad parity; the bytes come in any
-/// pieces. It has the screens of line 21 and the windows of the 63 services of DTVCC behind the last whole frame, and tells which frame
+/// pieces. It has the screens of line 21 and the windows of the 63 services of DTVCC after the last whole frame, and tells which frame
 /// that is and how many are missing before it (SMPTE ST 334-2, cdp_hdr_sequence_cntr; CTA-608-E; CTA-708-E).
 ///
 /// All channels and services are reset at a frame whose counter isn't that of the frame before it plus 1, modulo 65,536. A pair of line 21
@@ -53,7 +53,7 @@ impl Concealer {
     ghost use Rattle.cc_conceal.specs.Concealed.{concealed_grids, concealed_windows, heard_of, missing_before, number_of_last};
     ghost use Rattle.cc_conceal.specs.Concealers.{Conceals, ConcealsOn, HasActed, HasConcealed, IsBehind, concealed_frames, displayed_now, jumps_from, kept_at, next_missing, next_number, receiver_of};
 
-    /// A receiver that was fed nothing. The error comes where memory for its screens isn't found.
+    /// A receiver that was fed nothing. The error comes if memory for its screens isn't found.
     pub fn new(alloc: Global) -> Result<Concealer, AllocError>
         ensures { IfOk result (HasConcealed []) }
     {
@@ -70,7 +70,7 @@ impl Concealer {
         })
     }
 
-    /// Reads the next bytes, up to the end of an ancillary packet: it stops behind the word that ends one. Fewer than 4,294,967,295
+    /// Reads the next bytes, up to the end of an ancillary packet: it stops after the word that ends one. Fewer than 4,294,967,295
     /// frames have ended before. A word is refused where and for what a `Receiver` refuses it; a refusal is kept and answered from
     /// then on, with nothing read.
     pub fn feed(&mut self, bytes: &[u8]) -> Result<Fed, Refusal>
@@ -161,7 +161,7 @@ impl Concealer {
         self.receiver.frames()
     }
 
-    /// The number of the last whole frame: the counter of the first one, and for each further one so many more as the difference of the
+    /// The number of the last whole frame: the counter of the first one, and for each further one as many more as the difference of the
     /// counters modulo 65,536 says, with 65,536 in place of 0.
     pub fn frame(&self) -> u64
         requires { 0 < concealed_frames self.now }
@@ -245,7 +245,7 @@ impl Concealer {
         }
     }
 
-    /// The displayed cell of a channel at a row, 1 to 15, and a column, 0 to 31, behind the last whole frame (CTA-608-E; 47 CFR 79.101).
+    /// The displayed cell of a channel at a row, 1 to 15, and a column, 0 to 31, after the last whole frame (CTA-608-E; 47 CFR 79.101).
     pub fn cell(&self, chan: Chan, row: u8, col: u8) -> Option<Cell>
         requires row_from { 1 ≤ row }
         requires row_to { row ≤ 15 }
@@ -260,7 +260,7 @@ impl Concealer {
         }
     }
 
-    /// The displayed memory of a channel behind the last whole frame (CTA-608-E; 47 CFR 79.101).
+    /// The displayed memory of a channel after the last whole frame (CTA-608-E; 47 CFR 79.101).
     pub fn displayed(&self, chan: Chan) -> &Memory
         ensures grid { grid_in result.now ≡ displayed_now self.now chan }
         ensures concealed { (frames : List Frame) → Conceals frames self.now
@@ -273,7 +273,7 @@ impl Concealer {
         }
     }
 
-    /// The window of an id of a service, 1 to 63, behind the last whole frame, where there is one (CTA-708-E).
+    /// The window of an id of a service, 1 to 63, after the last whole frame, where there is one (CTA-708-E).
     pub fn window(&self, service: u8, id: u8) -> Option<&Window>
         requires { IsService service }
         ensures window { (frames : List Frame) → Conceals frames self.now

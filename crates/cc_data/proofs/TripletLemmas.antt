@@ -98,7 +98,7 @@ length-triplets (t ∷ ts) (_ ∷ []) are = absurd are
 length-triplets (t ∷ ts) (_ ∷ _ ∷ []) are = absurd are
 length-triplets (t ∷ ts) (first ∷ a ∷ b ∷ rest) are = omega (arith, length-triplets ts rest are.1)
 
--- two lists behind one another
+-- two lists after one another
 pub triplets-append : (ts us : List Triplet) (front rest : List ℕ) → AreTriplets ts front → AreTriplets us rest → AreTriplets (ts ++ us) (front ++ rest)
 triplets-append [] us [] rest are more = more
 triplets-append [] us (_ ∷ _) rest are more = absurd are

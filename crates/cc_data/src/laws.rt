@@ -21,7 +21,7 @@ pub fn bytes_are_one_triplet()
         → triplets_of bytes ≡ ts }
 {}
 
-/// A list of triplets has three bytes each, lists behind one another are one list, and bytes whose
+/// A list of triplets has three bytes each, lists after one another are one list, and bytes whose
 /// number is divided by three are the triplets that they are read as.
 pub fn triplets_are_three_bytes_each()
     ensures length { (ts : List Triplet) (bytes : List ℕ) → AreTriplets ts bytes

@@ -1,4 +1,4 @@
--- What is kept of an open packet of captions behind one more of its bytes.
+-- What is kept of an open packet of captions after one more of its bytes.
 use Rattle.std.proofs.Common.{◌≡◌, ℕ, ◌<◌, ◌%◌, ◌^◌, length, ◌++◌, List, [], ◌∷◌, Option, Some, None, refl, ap, sym, subst, ◌∙◌, append-nil}
 use Rattle.cc_base.specs.declared.step.Step.{Step}
 use Rattle.cc_base.specs.declared.why.Why.{Why}
@@ -24,7 +24,7 @@ use Rattle.cc_receiver.specs.Hearing.{heard}
 use Rattle.cc_receiver.specs.Serving.{ServesFrames, said_triplets}
 use Rattle.service_blocks.specs.Channels.{IsHeard}
 
--- what is handed on of a step, behind frames and the parts of the open packet
+-- what is handed on of a step, after frames and the parts of the open packet
 abbrev pub handed_of : List (List CdpPart) → List CdpPart → Step CdpPart → Handed CdpPart
 handed_of frames parts step = hand (verdict_behind services_say frames) parts step
 
@@ -39,7 +39,7 @@ pub record FeedsByte (byte : ℕ) (answer : Option Why) (reader next : CdpReader
   pub tried : (frames : List (List CdpPart)) (parts : List CdpPart) → HasTried (frames_parts frames ++ parts) old → answer ≡ None
       → HasTried (frames_parts frames ++ (parts ++ (handed_of frames parts step).parts)) new
 
--- what is caught behind a step
+-- what is caught after a step
 abbrev caught_behind : Caught → OpenCaption → ℕ → Reading CdpPart → Caught
 caught_behind caught o byte read =
     packet_gone_on (why_of read.refusal) (record { size = o.size; bytes = o.bytes ++ byte ∷ []; parts = o.parts ++ read.parts }) caught
@@ -53,7 +53,7 @@ read_is caught o byte place None parts =
     ap (λ ps. packet_gone_on None (record { size = o.size; bytes = o.bytes ++ byte ∷ []; parts = o.parts ++ ps }) caught) (append-nil parts)
 read_is caught o byte place (Some why) parts = refl
 
--- what is caught behind a byte of which this step is made
+-- what is caught after a byte of which this step is made
 taken_is : (o : OpenCaption) (caught : Caught) (byte : ℕ) (step : Step CdpPart) → step ≡ judge_cdp o.size (open_behind (cdp_syntax o.size) o.bytes) byte
     → taken_in services_say (Some o) byte caught
     ≡ packet_gone_on (handed_of caught.frames o.parts step).why
@@ -94,7 +94,7 @@ goes (Some o) caught byte answer reader next was now old new kept judged fed non
     subst (λ (m : Caught). Goes caught m answer next now new) (sym (taken_is o caught byte fed.step (fed.says o.size o.bytes kept.0)))
     (subst (λ w. Goes caught (packet_gone_on handed.why more caught) w next now new) (sym why) (cases handed.why refl))
 
--- captions that keep what was caught keep it behind a byte
+-- captions that keep what was caught keep it after a byte
 pub kept_going : (caught more : Caught) (captions : Captions) (answer : Option Why) (next : CdpReader) (now : Frame) (new : Channel) → Keeps caught captions
     → Goes caught more answer next now new → Keeps more (record captions { «open» = Some next; gathered = now; judging = new; refused = answer })
 kept_going caught more captions answer next now new keeps goes_on = record {

@@ -17,7 +17,7 @@ use Rattle.cc_receiver.specs.Gathering.{one_more}
 use Rattle.cc_receiver.specs.TripletLists.{HasTriplets}
 use Rattle.cc_receiver.proofs.GatheredLemmas.{more_fits}
 
--- more triplets behind more
+-- more triplets after more
 pub with_more-append : (triplets more others : List Triplet) → with_more triplets (more ++ others) ≡ with_more (with_more triplets more) others
 with_more-append triplets more others = front_from-append (one_more 81) triplets more others
 
@@ -54,7 +54,7 @@ none_pairs in_field (t ∷ triplets) (not, none) =
     ap (λ (v : Bool). (if v && (t.kind == field_kind in_field) then pair ∷ [] else []) ++ field_pairs in_field triplets) not
     ∙ none_pairs in_field triplets none
 
--- fillers behind others
+-- fillers after others
 pub fillers_kept : (triplets : List Triplet) (count : ℕ) (old new : Triplets) → HasTriplets triplets old → length triplets + count ≤ 81
     → take new.len new.cells ≡ triplets ++ replicate count filler → new.until ≡ old.until → HasTriplets (with_more triplets (replicate count filler)) new
 fillers_kept triplets count old new has room items until =

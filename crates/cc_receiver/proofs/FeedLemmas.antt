@@ -20,13 +20,13 @@ use Rattle.cc_receiver.specs.declared.receiver.Receiver.{Receiver}
 use Rattle.cc_receiver.specs.Feeds.{Counts}
 use Rattle.cc_receiver.specs.Receivers.{HasReceived}
 
--- so many of the bytes were read after those before: none was refused, and none of them ended a packet
+-- this many of the bytes were read after those before: none was refused, and none of them ended a packet
 pub record Underway (before bytes : List ℕ) (count : ℕ) (receiver : Receiver) : Type 0 where
   pub received : HasReceived (before ++ take count bytes) receiver
   pub none : refusal_of services_say (before ++ take count bytes) ≡ None
   pub within : (packets : List AncillaryPacket) (fewer : ℕ) → 0 < fewer → fewer ≤ count → IsWordsFile packets (before ++ take fewer bytes) → ⊥
 
--- a piece behind the bytes that were read
+-- a piece after the bytes that were read
 pub with_piece : (before bytes : List ℕ) (count more : ℕ) → (before ++ take count bytes) ++ take more (drop count bytes) ≡ before ++ take (count + more) bytes
 with_piece before bytes count more =
     append_assoc before (take count bytes) (take more (drop count bytes)) ∙ ap (λ bs. before ++ bs) (sym (take-add count more bytes))
@@ -54,7 +54,7 @@ cut n [] = grind (arith, common_steps)
 cut zero (x ∷ xs) = refl
 cut (suc n) (x ∷ xs) = ap (λ ys. x ∷ ys) (cut n xs)
 
--- the bytes that were read, and those behind them
+-- the bytes that were read, and those after them
 pub bytes-cut : (before bytes : List ℕ) (count : ℕ) → (before ++ take count bytes) ++ drop count bytes ≡ before ++ bytes
 bytes-cut before bytes count = append_assoc before (take count bytes) (drop count bytes) ∙ ap (λ xs. before ++ xs) (cut count bytes)
 

@@ -30,7 +30,7 @@ no_section : (bytes behind : List ℕ) → IsSection bytes → [] ≡ bytes ++ b
 no_section [] behind is none = is
 no_section (_ ∷ bytes) behind is none = cc
 
--- behind one more section
+-- after one more section
 pub way_next : (goal : List Triplet) (rest section behind : List ℕ) (Has Next : List Triplet → Type 0) → IsOnTheWay goal rest Has → IsSection section
     → rest ≡ section ++ behind → ((ts : List Triplet) → Has ts → Next (ts ++ section_triplets section)) → IsOnTheWay goal behind Next
 way_next goal rest section behind Has Next way is spelled taken =

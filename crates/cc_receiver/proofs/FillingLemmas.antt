@@ -19,7 +19,7 @@ fillers_read (suc count) (suc (suc (suc size))) few =
     let third : suc (suc (suc size)) / 3 ≡ suc (size / 3) = omega arith in
     ap (λ ts. filler ∷ ts) (fillers_read count size (omega (arith, few))) ∙ ap (λ n. replicate n filler) (sym third)
 
--- three bytes are read, and those behind them
+-- three bytes are read, and those after them
 pub three_read : (bytes three more : List ℕ) → three ≡ take 3 bytes → more ≡ drop 3 bytes → length more + 3 ≡ length bytes
     → read_as three ∷ triplets_of more ≡ triplets_of bytes
 three_read [] three more front back long = absurd (omega (arith, long))

@@ -50,7 +50,7 @@ held rate flags counter sections triplets one two = record {
   pairs_two = two;
 }
 
--- there is room for so many more bytes, and for the triplets in them
+-- there is room for this many more bytes, and for the triplets in them
 record Room (sections : List ℕ) (triplets : List Triplet) (one two : List Pair) (more : ℕ) : Type 0 where
   pub bytes : length sections + more ≤ 244
   pub triplets_fit : 3 * length triplets ≤ length sections
@@ -94,7 +94,7 @@ three_gathered rate flags counter sections triplets one two a b c half t more ro
     ∙ ap (λ x. held rate flags counter (sections ++ a ∷ b ∷ c ∷ []) (triplets ++ t ∷ []) x (pair_more two (field_pair Two t))) ones
     ∙ ap (λ x. held rate flags counter (sections ++ a ∷ b ∷ c ∷ []) (triplets ++ t ∷ []) (one ++ field_pair One t) x) twos
 
--- room behind them
+-- room after them
 three_room : (sections : List ℕ) (triplets : List Triplet) (one two : List Pair) (a b c : ℕ) (t : Triplet) (more : ℕ) → Room sections triplets one two (3 + more)
     → Room (sections ++ a ∷ b ∷ c ∷ []) (triplets ++ t ∷ []) (one ++ field_pair One t) (two ++ field_pair Two t) more
 three_room sections triplets one two a b c t more room =
@@ -115,7 +115,7 @@ three_room sections triplets one two a b c t more room =
       two_fits = omega (arith, two_fits, twos, ts, fewer);
     }
 
--- triplets behind what is held
+-- triplets after what is held
 abbrev with_triplets : Rate → ℕ → ℕ → List ℕ → List Triplet → List Pair → List Pair → List ℕ → List Triplet → Gathered
 with_triplets rate flags counter sections triplets one two bytes more =
     held rate flags counter (sections ++ bytes) (triplets ++ more) (one ++ field_pairs One more) (two ++ field_pairs Two more)
@@ -129,7 +129,7 @@ no_more rate flags counter sections triplets one two =
     ∙ ap (λ x. held rate flags counter (sections ++ []) (triplets ++ []) x two) (sym (append-nil one))
     ∙ ap (λ x. held rate flags counter (sections ++ []) (triplets ++ []) (one ++ []) x) (sym (append-nil two))
 
--- and more behind more
+-- and more after more
 more_behind : (rate : Rate) (flags counter : ℕ) (sections : List ℕ) (triplets : List Triplet) (one two : List Pair) (bytes others : List ℕ) (first second : List Triplet)
     → with_triplets rate flags counter (sections ++ bytes) (triplets ++ first) (one ++ field_pairs One first) (two ++ field_pairs Two first) others second
     ≡ with_triplets rate flags counter sections triplets one two (bytes ++ others) (first ++ second)
@@ -178,7 +178,7 @@ bytes_gathered rate flags counter sections triplets one two (b ∷ bytes) room =
     ∙ bytes_gathered rate flags counter (sections ++ b ∷ []) triplets one two bytes (omega (arith, room, long))
     ∙ ap (λ x. held rate flags counter x triplets one two) (append_assoc sections (b ∷ []) bytes)
 
--- the bytes behind a section's first two
+-- the bytes after a section's first two
 rest_gathered : (test : Bool) (id second : ℕ) (rate : Rate) (flags counter : ℕ) (sections : List ℕ) (triplets : List Triplet) (one two : List Pair) (rest : List ℕ)
     → (id == 0x72) ≡ test → length rest ≡ section_rest id second → Room sections triplets one two (length rest)
     → front_from gather (held rate flags counter sections triplets one two) (if test then triplet_parts rest else map part.SectionByte rest)
@@ -240,7 +240,7 @@ pairs_one_more in_field triplets t room =
     ∙ ap (λ ps. pairs ++ ps) (sym (append-nil (field_pair in_field t)))
     ∙ sym (flat_map-append (field_pair in_field) triplets (t ∷ []))
 
--- room behind a section
+-- room after a section
 section_room : (sections : List ℕ) (triplets : List Triplet) (one two : List Pair) (section : List ℕ) (more : ℕ) → IsSection section
     → Room sections triplets one two (length section + more)
     → Room (sections ++ section) (triplets ++ section_triplets section) (one ++ field_pairs One (section_triplets section)) (two ++ field_pairs Two (section_triplets section)) more

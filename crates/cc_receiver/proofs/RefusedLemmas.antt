@@ -1,4 +1,4 @@
--- Bytes behind a refused word change nothing.
+-- Bytes after a refused word change nothing.
 use Rattle.std.proofs.lemmas.List.Elements.{All-append}
 use Rattle.std.specs.List.{All}
 use Rattle.std.proofs.Common.{◌≡◌, ◌+◌, ◌<◌, ◌≤◌, ℕ, ◌++◌, ◌∷◌, List, [], length, Some, ap, append_assoc, arith, length-append, sym, subst, ◌∙◌}

@@ -77,19 +77,19 @@ heard_other before triplet other =
     ap (λ ps. parts_from block_syntax (open_behind block_syntax (parts_of packet_syntax before)) ps)
     (append-nil (step_parts (judge_triplet (open_behind packet_syntax before) triplet)) ∙ ap step_parts (passed_over (open_behind packet_syntax before) triplet other).0)
 
--- what is open behind one piece more
+-- what is open after one piece more
 pub open_more : (pieces : List PacketPart) (piece : PacketPart)
     → open_behind block_syntax (pieces ++ piece ∷ []) ≡ reading.open_after (open_behind block_syntax pieces) piece
 open_more pieces piece = front_from-append reading.open_after reading.nothing_open pieces (piece ∷ [])
 
--- services behind a triplet that says nothing
+-- services after a triplet that says nothing
 pub served_nothing : (before : List Triplet) (earlier last : Events) (triplet : Triplet) (served : Served) → HasHeard (before ++ triplet ∷ []) served.channel
     → heard_behind before (triplet ∷ []) ≡ [] → Leads earlier last served.services
     → HasServed (before ++ triplet ∷ []) earlier (λ service. last service ++ events_of service (heard_behind before (triplet ∷ []))) served
 served_nothing before earlier last triplet served heard none leads =
     record { heard = heard; leads = leads_none earlier last (heard_behind before (triplet ∷ [])) served.services none leads }
 
--- behind one of one piece
+-- after one of one piece
 abbrev pub said_by : List PacketPart → PacketPart → List BlockPart
 said_by pieces piece = step_parts (judge_part (open_behind block_syntax pieces) piece)
 
@@ -140,7 +140,7 @@ two_taken before triplet step first second is two heard =
     let taken = subst (λ ps. AllTaken block_syntax (open_behind block_syntax pieces) ps) two (taken_pieces before triplet step is heard) in
     (taken.0, subst (λ f. IsTaken (judge_part f second)) (sym (open_more pieces first)) taken.1.0)
 
--- a frame begins, and goes on with one more triplet
+-- a frame begins, and continues with one more triplet
 pub served_more : (rate : Rate) (before triplets : List Triplet) (triplet : Triplet) (earlier : Events) (served : Served)
     → HasServed ((before ++ triplets) ++ triplet ∷ []) earlier
     (λ service. given_by rate before triplets service ++ events_of service (heard_behind (before ++ triplets) (triplet ∷ []))) served

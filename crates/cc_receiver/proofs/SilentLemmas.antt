@@ -42,7 +42,7 @@ no_pieces_from front (triplet ∷ triplets) none =
           ∙ ap (λ f. parts_from packet_syntax f triplets) passed.1 ∙ no_pieces_from front triplets others
     ] in cases _ refl
 
--- readers behind them
+-- readers after them
 silent_heard : (before triplets : List Triplet) (channel : Channel) → channel_triplets triplets ≡ [] → HasHeard before channel
     → HasHeard (before ++ triplets) channel
 silent_heard before triplets channel none heard =
@@ -55,7 +55,7 @@ silent_heard before triplets channel none heard =
       blocks_read = subst (λ ps. blocks.HasRead ps channel.blocks) (sym parts) heard.blocks_read;
     }
 
--- readers behind triplets that end with some none of which counts
+-- readers after triplets that end with some none of which counts
 pub heard_whole : (before front triplets : List Triplet) (channel : Channel) → HasFront front triplets → HasHeard (before ++ front) channel
     → HasHeard (before ++ triplets) channel
 heard_whole before front triplets channel has heard =

@@ -33,7 +33,7 @@ abbrev pub KeepsLast : List (List CdpPart) → Frame → Type 0
 KeepsLast [] frame = Unit {0}
 KeepsLast (parts ∷ frames) frame = HasGathered parts frame
 
--- what judges is behind the parts of the frames and of the open packet
+-- what judges is after the parts of the frames and of the open packet
 abbrev pub JudgesParts : List (List CdpPart) → Option OpenCaption → Channel → Type 0
 JudgesParts frames None judging = Unit {0}
 JudgesParts frames (Some o) judging = HasTried (frames_parts frames ++ o.parts) judging

@@ -1,5 +1,5 @@
 -- Believed: the library's answers stand on these definitions.
--- What a receiver makes of the next bytes behind those that it was fed: it reads a front of them, or refuses a word.
+-- What a receiver makes of the next bytes after those that it was fed: it reads a front of them, or refuses a word.
 use Rattle.std.specs.Prelude.{◌≡◌, ℕ, ◌+◌, ◌<◌, ◌≤◌, ◌++◌, List, length, take, Result, Ok, Err}
 use Rattle.cc_base.specs.declared.refusal.Refusal.{Refusal}
 use Rattle.anc_words.specs.Packets.{AncillaryPacket}

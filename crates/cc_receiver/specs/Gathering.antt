@@ -35,16 +35,16 @@ nothing_gathered = record {
   pairs_two = [];
 }
 
--- one more behind others, where there is room
+-- one more after others, where there is room
 abbrev pub one_more : {T : Type 0} → ℕ → List T → T → List T
 one_more room items item = if nat_lt (length items) room then items ++ item ∷ [] else items
 
--- the pair of a triplet, if it has one of this field, behind others
+-- the pair of a triplet, if it has one of this field, after others
 abbrev pub pair_more : List Pair → List Pair → List Pair
 pair_more pairs [] = pairs
 pair_more pairs (pair ∷ rest) = one_more 81 pairs pair
 
--- behind one more triplet
+-- after one more triplet
 abbrev pub with_triplet : Triplet → Gathered → Gathered
 with_triplet t g = record g {
   triplets = one_more 81 g.triplets t;
@@ -52,7 +52,7 @@ with_triplet t g = record g {
   pairs_two = pair_more g.pairs_two (field_pair Two t);
 }
 
--- behind one more part
+-- after one more part
 abbrev pub gather : Gathered → CdpPart → Gathered
 gather g (part.Rate rate) = record g { rate = rate }
 gather g (part.Flags flags) = record g { flags = flags }
@@ -62,6 +62,6 @@ gather g (part.Half triplet) = g
 gather g (part.Triplet triplet) = with_triplet triplet g
 gather g part.End = g
 
--- behind parts
+-- after parts
 abbrev pub gathered : List CdpPart → Gathered
 gathered parts = front_from gather nothing_gathered parts

@@ -1,5 +1,5 @@
 -- Believed in part: the library's answers stand on some of these definitions.
--- What a receiver is, behind the bytes that it was fed.
+-- What a receiver is, after the bytes that it was fed.
 use Rattle.std.specs.Prelude.{◌≡◌, ℕ, ◌<◌, List, [], length, Option}
 use Rattle.std.specs.List.{All}
 use Rattle.cc_base.specs.declared.refusal.Refusal.{Refusal}
@@ -35,7 +35,7 @@ field_in in_field receiver = captions_field in_field receiver.captions
 abbrev pub displayed_grid : Receiver → Chan → Grid
 displayed_grid receiver chan = (channel (data_channel_of chan) (field_of (field_in (field_of_channel chan) receiver))).displayed
 
--- it was fed these bytes, those too behind a refused word, and counts their frames
+-- it was fed these bytes, those too after a refused word, and counts their frames
 pub record HasReceived (bytes : List ℕ) (receiver : Receiver) : Type 0 where
   pub reached : Reached (judge_by anc_syntax) (caption_verdict services_say) (place_by 2) HasRead kept_refusal HasCaught
       [] [] bytes receiver.words receiver.captions

@@ -1,6 +1,6 @@
 -- Believed: the library's answers stand on these definitions.
 -- What whole frames give the services of DTVCC (CTA-708-E, sections 5 to 7): in each frame a tick of its rate, and then what its triplets
--- say behind those of the frames before.
+-- say after those of the frames before.
 use Rattle.std.specs.Prelude.{◌≡◌, List, [], ◌∷◌, ◌++◌, length}
 use Rattle.cc_base.specs.declared.rate.Rate.{Rate}
 use Rattle.cc_data.specs.declared.triplet.Triplet.{Triplet}
@@ -17,11 +17,11 @@ use Rattle.cc_receiver.specs.declared.services.Served.{Served}
 abbrev pub no_events : Events
 no_events service = []
 
--- events, and others behind them
+-- events, and others after them
 abbrev pub followed_by : Events → Events → Events
 followed_by earlier last service = earlier service ++ last service
 
--- what a frame of a rate with these triplets gives each service, behind the triplets of the frames before
+-- what a frame of a rate with these triplets gives each service, after the triplets of the frames before
 abbrev pub given_by : Rate → List Triplet → List Triplet → Events
 given_by rate before triplets service = Tick rate ∷ events_of service (heard_behind before triplets)
 

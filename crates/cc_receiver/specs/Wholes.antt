@@ -1,5 +1,5 @@
 -- Between crates: the program's answer stands on none of these definitions.
--- What a receiver is behind a whole packet of captions that it read in one pass.
+-- What a receiver is after a whole packet of captions that it read in one pass.
 use Rattle.std.specs.Prelude.{◌≡◌, ℕ, ◌+◌, ◌<◌, ◌++◌, List, None, take}
 use Rattle.anc_words.specs.Packets.{AncillaryPacket}
 use Rattle.anc_words.specs.WordsFiles.{IsWordsFile}
@@ -10,7 +10,7 @@ use Rattle.cc_receiver.specs.declared.receiver.Ended.TheVariants as ended
 use Rattle.cc_receiver.specs.Receivers.{HasReceived, frame_count}
 use Rattle.cc_receiver.specs.Receiving.{EndsBy}
 
--- it was fed the bytes before and so many of these, which end with that packet, and no packet ends before it
+-- it was fed the bytes before and this many of these, which end with that packet, and no packet ends before it
 pub record ReadsWhole (before bytes : List ℕ) (size : ℕ) (old new : Receiver) : Type 0 where
   pub received : HasReceived (before ++ take size bytes) new
   pub unrefused : refusal_of services_say (before ++ take size bytes) ≡ None

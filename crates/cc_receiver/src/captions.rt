@@ -28,14 +28,14 @@ use std::alloc::{AllocError, Global};
 use std::mem;
 
 /// Takes the parts of ancillary packets. It reads the distribution packet of each one of captions, and applies its pairs of
-/// line 21 when the packet ends, behind a good checksum word.
+/// line 21 when the packet ends, after a good checksum word.
 #[derive(Drop)]
 pub(crate) struct Captions {
     /// What reads the packet of captions that is open.
     pub(crate) open: Option<CdpReader>,
     /// What the open packet says so far.
     pub(crate) gathered: Frame,
-    /// What judges the triplets of the open packet, behind those of the whole frames.
+    /// What judges the triplets of the open packet, after those of the whole frames.
     pub(crate) judging: Channel,
     /// What the last whole frame says.
     pub(crate) last: Frame,

@@ -27,7 +27,7 @@ fn are_null(pairs: &[Pair]) -> bool
     pairs.iter().all(|pair| pair.is_null())
 }
 
-// Puts the pair of a triplet, if it counts and is of this kind, behind others, where there is room.
+// Puts the pair of a triplet, if it counts and is of this kind, after others, where there is room.
 fn put_pair(triplet: Triplet, kind: u8, pairs: &mut ArrayVec<Pair, 81>)
     ensures { (in_field : FieldNumber) → kind ≡ field_kind in_field
         → pairs.new.items ≡ pair_more pairs.old.items (field_pair in_field triplet) }
@@ -57,7 +57,7 @@ pub(crate) struct Frame {
     pub(crate) rate: Rate,
     pub(crate) flags: u8,
     pub(crate) counter: u16,
-    /// The bytes of the sections, one section behind another. A packet has at most 255 bytes, eleven of them around the
+    /// The bytes of the sections, one section after another. A packet has at most 255 bytes, eleven of them around the
     /// sections.
     pub(crate) sections: ArrayVec<u8, 244>,
     /// The triplets, in order.

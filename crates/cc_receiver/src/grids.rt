@@ -44,7 +44,7 @@ pub trait Touched {
     /// There was a frame.
     ghost has_frame: { Self → Type 0 };
 
-    /// What was seen of the windows before the last frame, and what is seen of them behind it, by the service and the window's id.
+    /// What was seen of the windows before the last frame, and what is seen of them after it, by the service and the window's id.
     ghost turned: { Self → (ℕ → ℕ → Option ShownWindow) → (ℕ → ℕ → Option ShownWindow) → Type 0 };
 
     /// Whether something that is seen of a service may have changed in the last frame: where it says no, all windows of all services

@@ -53,9 +53,9 @@ pub struct Fed {
 }
 
 /// The receiver of a words file, whose bytes come in any pieces: the screens of line 21 and the windows of the 63 services of DTVCC
-/// behind the last whole frame, and what that frame says (SMPTE ST 291-1, ST 334-1 and ST 334-2; CTA-608-E; CTA-708-E; 47 CFR 79.101).
+/// after the last whole frame, and what that frame says (SMPTE ST 291-1, ST 334-1 and ST 334-2; CTA-608-E; CTA-708-E; 47 CFR 79.101).
 ///
-/// A packet of captions acts when it ends, behind a good checksum word, and other packets change nothing. After a refusal the
+/// A packet of captions acts when it ends, after a good checksum word, and other packets change nothing. After a refusal the
 /// receiver stays at the last whole frame. All memory that it ever takes is taken by `new`.
 #[derive(Drop)]
 pub struct Receiver {
@@ -71,7 +71,7 @@ impl Receiver {
     ghost use Rattle.dtvcc_services.specs.Numbers.{IsLowest, IsService};
     ghost use Rattle.dtvcc_windows.specs.Objects.{is_live, window_of};
 
-    /// A receiver that was fed nothing. The error comes where memory for its four screens isn't found.
+    /// A receiver that was fed nothing. The error comes if memory for its four screens isn't found.
     pub fn new(alloc: Global) -> Result<Receiver, AllocError>
         ensures { IfOk result (HasReceived []) }
     {
@@ -81,10 +81,10 @@ impl Receiver {
         })
     }
 
-    /// Reads the next bytes, up to the end of an ancillary packet: it stops behind the word that ends one. Fewer than
+    /// Reads the next bytes, up to the end of an ancillary packet: it stops after the word that ends one. Fewer than
     /// 4,294,967,295 frames have ended before.
     ///
-    /// A word is refused where no file goes on with it: for its high bits, the flag, its parity or the checksum (SMPTE
+    /// A word is refused where no file can continue with it: for its high bits, the flag, its parity or the checksum (SMPTE
     /// ST 291-1), in this order, or, in a packet of captions, as a byte of its distribution packet (SMPTE ST 334-2). The
     /// place is the number of the word's first byte. A refusal is kept and answered from then on, with nothing read.
     pub fn feed(&mut self, bytes: &[u8]) -> Result<Fed, Refusal>
@@ -219,7 +219,7 @@ impl Receiver {
         self.captions.frames
     }
 
-    /// The displayed cell of a channel at a row, 1 to 15, and a column, 0 to 31, behind the last whole frame (CTA-608-E; 47
+    /// The displayed cell of a channel at a row, 1 to 15, and a column, 0 to 31, after the last whole frame (CTA-608-E; 47
     /// CFR 79.101).
     pub fn cell(&self, chan: Chan, row: u8, col: u8) -> Option<Cell>
         requires row_from { 1 ≤ row }
@@ -233,7 +233,7 @@ impl Receiver {
         self.displayed(chan).cell(row, col)
     }
 
-    /// The displayed memory of a channel behind the last whole frame (CTA-608-E; 47 CFR 79.101).
+    /// The displayed memory of a channel after the last whole frame (CTA-608-E; 47 CFR 79.101).
     pub fn displayed(&self, chan: Chan) -> &Memory
         ensures { grid_in result.now ≡ displayed_grid self.now chan }
     {
@@ -258,7 +258,7 @@ impl Receiver {
         self.captions.last.is_idle()
     }
 
-    /// The window of an id of a service, 1 to 63, behind the last whole frame, where there is one (CTA-708-E).
+    /// The window of an id of a service, 1 to 63, after the last whole frame, where there is one (CTA-708-E).
     pub fn window(&self, service: u8, id: u8) -> Option<&Window>
         requires { IsService service }
         ensures received { (bytes : List ℕ) (frames : List FrameOf) → HasReceived bytes self.now
@@ -270,7 +270,7 @@ impl Receiver {
         self.captions.served.services.window(service, id)
     }
 
-    /// The number of bytes that a delay of a service, 1 to 63, holds behind the last whole frame, at most 127 (CTA-708-E, Delay).
+    /// The number of bytes that a delay of a service, 1 to 63, holds after the last whole frame, at most 127 (CTA-708-E, Delay).
     pub fn held(&self, service: u8) -> u8
         requires { IsService service }
         ensures received { (bytes : List ℕ) (frames : List FrameOf) → HasReceived bytes self.now
@@ -360,7 +360,7 @@ impl Receiver {
         self.captions.last.triplets.as_slice().len() as u16
     }
 
-    /// The bytes of the sections of the last whole frame, where there is one, one section behind another (SMPTE ST 334-2).
+    /// The bytes of the sections of the last whole frame, where there is one, one section after another (SMPTE ST 334-2).
     pub fn sections(&self) -> &[u8]
         requires { 0 < frame_count self.now }
         ensures { (bytes : List ℕ) (earlier : List FrameOf) (last : FrameOf)

@@ -18,7 +18,7 @@ use dtvcc_windows::Window;
 use service_blocks::BlockPart;
 use std::alloc::{AllocError, Global};
 
-/// So many frames can be counted.
+/// This many frames can be counted.
 const MOST_FRAMES: u64 = 4_294_967_295;
 
 /// The services of DTVCC, and the readers of the caption channel that brings them their bytes, frame by frame (CTA-708-E, sections
@@ -93,7 +93,7 @@ impl Served {
         self.services.reset();
     }
 
-    /// The window of an id of a service, 1 to 63, behind the last frame, where there is one (CTA-708-E).
+    /// The window of an id of a service, 1 to 63, after the last frame, where there is one (CTA-708-E).
     pub fn window(&self, service: u8, id: u8) -> Option<&Window>
         requires { IsService service }
         ensures window { (triplets : List TripletOf) (earlier last : Events)
@@ -105,7 +105,7 @@ impl Served {
         self.services.window(service, id)
     }
 
-    /// Whether a service, 1 to 63, may have a window behind the last frame: where it says no, it has none (CTA-708-E).
+    /// Whether a service, 1 to 63, may have a window after the last frame: where it says no, it has none (CTA-708-E).
     pub fn is_used(&self, service: u8) -> bool
         requires { IsService service }
         ensures { (triplets : List TripletOf) (earlier last : Events)

@@ -78,7 +78,7 @@ impl Triplets {
         self.until = other.until;
     }
 
-    // Puts triplets behind the others, none of which is told to count.
+    // Puts triplets after the others, none of which is told to count.
     fn append(&mut self, triplets: &[Triplet])
         requires { self.old.len + length triplets.now ≤ 81 }
         ensures items { take self.new.len self.new.cells
@@ -156,7 +156,7 @@ impl Triplets {
         }
     }
 
-    // Puts a triplet behind the others, where there is room, and doesn't tell whether it counts.
+    // Puts a triplet after the others, where there is room, and doesn't tell whether it counts.
     #[inline]
     fn put(&mut self, triplet: Triplet)
         ensures items { take self.new.len self.new.cells

@@ -28,7 +28,7 @@ pub enum Line<'a> {
     Due,
     /// The last output is held.
     Hold,
-    /// So many of the first bytes of the last output become the output that is due.
+    /// This many of the first bytes of the last output become the output that is due.
     Keep(usize),
     /// Something is set for the next run.
     Next(Choice<'a>),
@@ -57,7 +57,7 @@ pub enum Change<'a> {
     Packet(&'a str),
     /// The bytes of these digits are put over those from a place on.
     Set(usize, &'a str),
-    /// So many bytes from a place on are taken away.
+    /// This many bytes from a place on are taken away.
     Drop(usize, usize),
 }
 

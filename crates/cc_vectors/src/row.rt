@@ -156,7 +156,7 @@ impl Row {
         Ok(())
     }
 
-    /// Has bytes stand in place of so many of those that are held, from a place on. All of these have to be there.
+    /// Has bytes stand in place of this many of those that are held, from a place on. All of these have to be there.
     fn replace(
         &mut self,
         alloc: Global,

@@ -56,7 +56,7 @@ come_later former frame (cue ∷ earlier) le come =
     let now : cue.show ≤ former = come.0 in
     (omega arith, come_later former frame earlier le come.1)
 
--- times behind some cues
+-- times after some cues
 pub record TimedFrom (cues : List Cue) : Type 0 where
   pub from : ℕ
   pub timed : AreCuesTimed from cues
@@ -65,7 +65,7 @@ timed_behind : (from : ℕ) (front cues : List Cue) → AreCuesTimed from (front
 timed_behind from [] cues timed = record { from = from; timed = timed }
 timed_behind from (cue ∷ front) cues timed = timed_behind cue.show front cues timed.2
 
--- the cues on a channel are those among the first cues, and those behind
+-- the cues on a channel are those among the first cues, and those after
 split_on : (channel : Chan) (cues : List Cue) (n : ℕ) → cues_on channel cues ≡ cues_on channel (take n cues) ++ cues_on channel (drop n cues)
 split_on channel cues n =
     ap (cues_on channel) (sym (take-append-drop n cues)) ∙ filter-append (λ (c : Cue). is_on channel c.kind) (take n cues) (drop n cues)

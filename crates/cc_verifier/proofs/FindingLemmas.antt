@@ -1,4 +1,4 @@
--- What is found at a frame behind others: the first of what is tried, and frames at which nothing is found.
+-- What is found at a frame after others: the first of what is tried, and frames at which nothing is found.
 use Rattle.std.proofs.Common.{◌≡◌, ◌≢◌, ◌∙◌, ℕ, ◌+◌, ◌%◌, ◌≤◌, ◌++◌, true, false, List, [], ◌∷◌, length, ap, arith, inl, inr, refl, rules, subst, sym}
 use Rattle.std.proofs.lemmas.Bool.{cases_lt}
 use Rattle.std.specs.Prelude.{◌⊎◌, None, Option, Some}

@@ -1,4 +1,4 @@
--- A verifier behind more bytes, and how it judges them at their end.
+-- A verifier after more bytes, and how it judges them at their end.
 use Rattle.std.proofs.Common.{◌≡◌, ℕ, ◌++◌, List, subst}
 use Rattle.std.specs.Prelude.{None, Some}
 use Rattle.cc_receiver.specs.Receivers.{HasReceived, frame_count}

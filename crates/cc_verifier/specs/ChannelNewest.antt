@@ -5,7 +5,7 @@ use Rattle.line21_codes.specs.declared.channels.Chan.{Chan}
 use Rattle.cue_types.specs.Channels.{cues_on, is_on}
 use Rattle.cue_types.specs.declared.cue.Cue.{Cue}
 
--- those among so many cues, the newest first
+-- those among this many cues, the newest first
 abbrev pub newest : Chan → List Cue → ℕ → List Cue
 newest channel cues count = reverse (cues_on channel (take count cues))
 

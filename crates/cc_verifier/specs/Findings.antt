@@ -32,7 +32,7 @@ pub record Miscounts (last : Frame) (expected seen : ℕ) : Type 0 where
   pub seen_is : seen ≡ length (packet_triplets last)
   pub others : seen ≢ expected
 
--- what is found at a frame, behind the frames before. Two pairs in a frame are no fault of a list
+-- what is found at a frame, after the frames before. Two pairs in a frame are no fault of a list
 abbrev pub IsFound : Listing → List Frame → Frame → Kind45 → Type 0
 IsFound list earlier last (kind.CounterJump expected seen) = Jumps earlier last expected seen
 IsFound list earlier last (kind.WrongCount expected seen) = Miscounts last expected seen

@@ -1,5 +1,5 @@
 -- Believed in part: the library's answers stand on some of these definitions.
--- What a verifier is, behind the bytes that it was fed.
+-- What a verifier is, after the bytes that it was fed.
 use Rattle.std.specs.Prelude.{◌≡◌, ◌<◌, ◌≤◌, ℕ, List, [], ◌∷◌, ◌++◌, length, take, Option, Some, None, Result, Ok, Err}
 use Rattle.cc_base.specs.declared.refusal.Refusal.{Refusal}
 use Rattle.cc_receiver.specs.Feeds.{Feeds}
@@ -57,7 +57,7 @@ pub record KnowsAt (frame : ℕ) (screens : Chan → Grid) (windows : AllSeenWin
   pub channels : KnowAll verifier.list.cues frame screens verifier.channels
   pub services : KnowServices verifier.list.cues frame windows verifier.services
 
--- it goes on behind frames
+-- it goes on after frames
 pub record GoesOn (frames : List Frame) (verifier : Verifier) : Type 0 where
   pub counter : IsLastCounter frames verifier.counter
   pub ready : IsReadyAt (length frames) verifier

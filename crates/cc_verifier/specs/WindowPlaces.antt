@@ -32,7 +32,7 @@ pub record StandsAtPlace (service id : ℕ) (cues : List Cue) (frame place : ℕ
   pub passed : HasPassed service id cues frame place
   pub next : IfSome (slice_get cues place) (IsToHide service id frame)
 
--- behind a frame a cue isn't shown or hidden before another
+-- after a frame a cue isn't shown or hidden before another
 pub record IsQuiet (frame until : ℕ) (cue : Cue) : Type 0 where
   pub show : frame < cue.show → until ≤ cue.show
   pub hide : IfSome cue.hide (λ hide. until ≤ hide)

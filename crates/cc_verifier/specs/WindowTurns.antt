@@ -9,7 +9,7 @@ use Rattle.cue_types.specs.declared.cue.Cue.{Cue}
 abbrev pub IsLater : ℕ → ℕ → Cue → Cue → Type 0
 IsLater service id cue other = uses_window service id other.kind ≡ true → cue.show < other.show
 
--- each cue of the window is shown before those of its cues that stand behind it
+-- each cue of the window is shown before those of its cues that follow it
 abbrev pub AreInTurn : ℕ → ℕ → List Cue → Type 0
 AreInTurn service id [] = ⊤
 AreInTurn service id (cue ∷ later) =

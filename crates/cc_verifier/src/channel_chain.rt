@@ -7,7 +7,7 @@ use cue_types::Cue;
 use cue_types::line21::{continues, is_on};
 use line21_codes::Chan;
 
-/// The last one on a channel of the first cues of a list, so many.
+/// The last one on a channel of the first cues of a list, this many.
 pub(crate) fn last_on(channel: Chan, cues: &[Cue], count: usize) -> Option<usize>
     requires { count ≤ length cues.now }
     ensures { IsLastOn channel cues.now count result }
@@ -22,7 +22,7 @@ pub(crate) fn last_on(channel: Chan, cues: &[Cue], count: usize) -> Option<usize
     None
 }
 
-/// The cue so many places before the last one in the chain of roll-up cues that ends with the cue of this number.
+/// The cue this many places before the last one in the chain of roll-up cues that ends with the cue of this number.
 pub(crate) fn chain_cue(channel: Chan, cues: &[Cue], number: usize, places: u8) -> Option<usize>
     requires { number < length cues.now }
     ensures { (cue : CueOf) → slice_get cues.now number ≡ Some cue

@@ -14,7 +14,7 @@ use cue_types::line21::{base_row, is_on};
 use cue_types::{Cue, Kind};
 use line21_codes::Chan;
 
-/// Where a channel stands in the cues of a list at a frame: behind the last of its cues whose SHOW has come.
+/// Where a channel stands in the cues of a list at a frame: after the last of its cues whose SHOW has come.
 #[derive(Clone, Copy, PartialEq, Eq)]
 pub struct ChannelCursor {
     channel: Chan,

@@ -24,7 +24,7 @@ pub enum Verdict {
     Ok,
     /// This is the first finding.
     Differs(Finding),
-    /// Nothing is found, and there are only so many frames, fewer than the list has.
+    /// Nothing is found, and there are only this many frames, fewer than the list has.
     Short(u32),
 }
 
@@ -33,7 +33,7 @@ pub enum Verdict {
 /// At each whole frame it tries, in this order, whether the counter goes on from that of the frame before, whether the number of
 /// triplets is that of the packet's rate, whether the rate is the list's, whether the held bytes of no service reached 128, and
 /// whether the screens of CC1 to CC4, where the frame is settled for them, and the windows of services 1 to 63 are those that are
-/// authored; behind the list's last frame too (SMPTE ST 334-2; CTA-708-E, cc_data() and Delay; CTA-608-E; 47 CFR 79.101). All memory
+/// authored; after the list's last frame too (SMPTE ST 334-2; CTA-708-E, cc_data() and Delay; CTA-608-E; 47 CFR 79.101). All memory
 /// that it ever takes is taken by `new`.
 #[derive(Drop)]
 pub struct Verifier {
@@ -49,7 +49,7 @@ pub struct Verifier {
 impl Verifier {
     ghost use Rattle.cc_verifier.specs.Verifiers.{FeedsOn, Finds, FindsOn, GoesOn, HasJudgedFrame, HasVerified, IsLastCounter, IsReadyAt, IsSameBeside, JudgedAs, JudgesFile, KnowsAt, Verifies, finding_of, list_of, verified_frames};
 
-    /// A verifier against a list that keeps the rules, which was fed nothing. The error comes where memory for its receiver and
+    /// A verifier against a list that keeps the rules, which was fed nothing. The error comes if memory for its receiver and
     /// for what it keeps of four screens isn't found, and the list is dropped then.
     pub fn new(alloc: Global, list: CueList) -> Result<Verifier, AllocError>
         requires { IsRuled list }
@@ -206,7 +206,7 @@ impl Verifier {
         }
     }
 
-    /// Goes on behind the frame that ended last, to that of this number.
+    /// Goes on after the frame that ended last, to that of this number.
     fn advance(&mut self, frame: u32)
         requires some { 0 < verified_frames self.now }
         requires ready { (former : ℕ) × (frame ≡ former + 1) × IsReadyAt former self.now }

@@ -27,7 +27,7 @@ Opening bytes (Some (held.Building building)) report = Begins bytes building × 
 Opening bytes None report = (why : Status) × Refuses bytes why × (report ≡ report_of why 0)
 Opening bytes _ report = ⊥
 
--- the next frame of the list was asked for, which has this, and C is told what came of it
+-- the next frame of the list was asked for, which has this, and C learns what came of it
 pub record AsksNext (list : Listing) (placed : Placement) (frame : ℕ) (packet before after : List ℕ) (code count : ℕ) (old new : Building) : Type 0 where
   pub answer : NextFrame
   pub gives : GivesNext list placed frame packet before after old new answer

@@ -10,12 +10,12 @@ use Rattle.ccsuite_c.specs.declared.calls.StartTime.{StartTime}
 abbrev pub start_of : StartTime → TimeCode
 start_of start = record { h = start.hours; m = start.minutes; s = start.seconds; f = start.frames; drop_frame = start.drop_frame }
 
--- time codes that count like this have so many frames a second, and drop frame or none
+-- time codes that count like this have this many frames a second, and drop frame or none
 pub record CountsSo (frames : ℕ) (drop_frame : Bool) (count : Counting) : Type 0 where
   pub frames_are : frames_a_second count ≡ frames
   pub drop : has_drop_frame count ≡ drop_frame
 
--- an MCC file with so many frames a second may begin at this time: time codes count like this, and a frame of the day has it
+-- an MCC file with this many frames a second may begin at this time: time codes count like this, and a frame of the day has it
 pub record IsMccStart (frames : ℕ) (start : StartTime) (count : Counting) : Type 0 where
   pub counts : CountsSo frames start.drop_frame count
   pub time : is_time_code_in count (start_of start) ≡ true

@@ -1,5 +1,5 @@
 -- Believed: the library's answers stand on these definitions.
--- What C is told of cells and windows.
+-- What C learns of cells and windows.
 use Rattle.std.specs.Prelude.{ℕ, Bool, true, false, Option, Some, None, if◌then◌else◌, ◌==◌, replicate}
 use Rattle.dtvcc_codes.specs.declared.pens.Fill.{Fill}
 use Rattle.dtvcc_codes.specs.declared.pens.Rgb.{Rgb}

@@ -1,5 +1,5 @@
 -- Believed: the library's answers stand on these definitions.
--- What C is told of all cells of a channel, and of a window.
+-- What C learns of all cells of a channel, and of a window.
 use Rattle.std.specs.Prelude.{◌≡◌, ◌⊎◌, ◌+◌, ◌*◌, ◌/◌, ◌%◌, ◌<◌, ◌≤◌, ℕ, List, Option, Some, None, drop, length, slice_get}
 use Rattle.caption_streams.specs.Receptions.{grids_behind}
 use Rattle.caption_streams.specs.declared.reception.Reception.{Reception}
@@ -12,7 +12,7 @@ use Rattle.ccsuite_c.specs.Codes.{argument_code, none_code, room_code}
 use Rattle.ccsuite_c.specs.declared.cells.TextCell.{TextCell}
 use Rattle.ccsuite_c.specs.declared.cells.WindowCell.{WindowCell}
 
--- the first cells are these, so many, and the others are as they were
+-- the first cells are these, this many, and the others are as they were
 pub record HoldsCells {A : Type 0} (count : ℕ) (cell_at : ℕ → A) (before after : List A) : Type 0 where
   pub fits : count ≤ length before
   pub cells : (place : ℕ) → place < count → slice_get after place ≡ Some (cell_at place)

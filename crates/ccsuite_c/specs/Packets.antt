@@ -1,5 +1,5 @@
 -- Believed: the library's answers stand on these definitions.
--- What C is told of the packets of one frame.
+-- What C learns of the packets of one frame.
 use Rattle.std.specs.Prelude.{◌≡◌, ◌⊎◌, ◌<◌, ℕ, List, length, replicate}
 use Rattle.caption_packets.specs.FrameWords.{triplet_bytes_of}
 use Rattle.cc_base.specs.Rate.{rate_code}

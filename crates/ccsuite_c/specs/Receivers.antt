@@ -47,7 +47,7 @@ OpenedReceiver conceals code (Some (held.Receiving receiving)) = (code ≡ 0) ×
 OpenedReceiver conceals code None = code ≡ memory_code
 OpenedReceiver conceals code _ = ⊥
 
--- bytes were fed, and C is told what came of them
+-- bytes were fed, and C learns what came of them
 pub record ReceivesMore (before bytes : List ℕ) (old new : Receiving) (code : ℕ) (told : FedBytes) : Type 0 where
   pub answer : Result Fed FeedFault
   pub feeds : AnswersFed before bytes (reception_of old) (reception_of new) answer
@@ -58,7 +58,7 @@ abbrev pub ReceivesAnswer : List ℕ → List ℕ → Receiving → ℕ → FedB
 ReceivesAnswer before bytes old code told (Some (held.Receiving new)) = ReceivesMore before bytes old new code told
 ReceivesAnswer before bytes old code told _ = ⊥
 
--- words end behind these bytes: they are a words file, or it is told why they are none
+-- words end after these bytes: they are a words file, or it is told why they are none
 abbrev pub EndAnswer : List ℕ → ℕ → FedBytes → Type 0
 EndAnswer bytes code told =
     ((code ≡ 0) × (told ≡ read_so 0 0) × ((frames : List Frame) × IsFileUnder caption_channel frames bytes))
@@ -124,7 +124,7 @@ HandsOut text before after code count =
     ((code ≡ 0) × TextStands text before after count)
     ⊎ ((code ≡ room_code) × (length before < length text) × IsUntouched before after count)
 
--- the screens behind frames were put, and nothing else changed
+-- the screens after frames were put, and nothing else changed
 pub record HasPutScreens (frames : List Frame) (old new : Receiving) : Type 0 where
   pub reception : reception_of new ≡ reception_of old
   pub last : LookAlike (last_screens new) (screens_behind (reception_of old) frames)
@@ -141,7 +141,7 @@ ChangesAnswer old frames before after code count (Some (held.Receiving new)) =
     ⊎ ((code ≡ memory_code) × (new ≡ old) × IsUntouched before after count)
 ChangesAnswer old frames before after code count _ = ⊥
 
--- all screens behind frames are handed out, or there is too little room, or memory wasn't found
+-- all screens after frames are handed out, or there is too little room, or memory wasn't found
 abbrev pub ScreensAnswer : Reception → List Frame → List ℕ → List ℕ → ℕ → ℕ → Type 0
 ScreensAnswer reception frames before after code count =
     HandsOut (all_text (number_behind reception frames) (screens_behind reception frames)) before after code count

@@ -11,7 +11,7 @@ use Rattle.caption_streams.specs.Verifiers.{HasVerified}
 use Rattle.ccsuite_c.specs.declared.state.State.{State}
 use Rattle.ccsuite_c.specs.declared.state.State.TheVariants as held
 
--- some bytes were fed to it, or none: it is behind them
+-- some bytes were fed to it, or none: it is after them
 abbrev pub WasFed : State → Type 0
 WasFed (held.Building building) = ⊤
 WasFed (held.Receiving receiving) = (bytes : List ℕ) × HasFed bytes (reception_of receiving)

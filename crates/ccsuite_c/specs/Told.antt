@@ -1,5 +1,5 @@
 -- Believed in part: the library's answers stand on some of these definitions.
--- What C is told of bytes that were fed, of a frame that was asked for, and of a reason.
+-- What C learns of bytes that were fed, of a frame that was asked for, and of a reason.
 use Rattle.std.specs.Prelude.{◌≡◌, ◌⊎◌, ℕ, Result, Ok, Err, replicate}
 use Rattle.cc_base.specs.Why.{reason_number}
 use Rattle.cc_base.specs.declared.refusal.Refusal.{Refusal}
@@ -21,7 +21,7 @@ ended_number ended.No = 0
 ended_number ended.Foreign = 1
 ended_number ended.Caption = 2
 
--- so many bytes were read, and a packet ended so, or none
+-- this many bytes were read, and a packet ended so, or none
 abbrev pub read_so : ℕ → ℕ → FedBytes
 read_so count ending = record { used = count; place = 0; ended = ending; why = 0; reserved = replicate 2 0 }
 

@@ -26,12 +26,12 @@ OpenedVerifier bytes (Some (held.Verifying verifying)) report = BeginsVerifying 
 OpenedVerifier bytes None report = (why : Status) × RefusesList bytes why × (report ≡ report_of why 0)
 OpenedVerifier bytes _ report = ⊥
 
--- what C is told of words that were fed: bytes that end a frame at which something is found are told so
+-- what C learns of words that were fed: bytes that end a frame at which something is found are told so
 abbrev pub TellsVerified : Result Fed FeedFault → Bool → ℕ → FedBytes → Type 0
 TellsVerified (Ok fed) true code told = (code ≡ found_code) × (told ≡ read_so fed.used (ended_number fed.ended))
 TellsVerified answer found code told = TellsFed answer code told
 
--- words were fed, and C is told what came of them
+-- words were fed, and C learns what came of them
 pub record VerifiesMore (before words : List ℕ) (old new : Verifying) (code : ℕ) (told : FedBytes) : Type 0 where
   pub answer : Result Fed FeedFault
   pub verified : AnswersVerified before words (verifier_of old) (verifier_of new) answer

@@ -244,7 +244,7 @@ pub extern "C" fn ccsuite_xds(
     report.status
 }
 
-/// Tries the whole way of captions on a list of so many, 1 to 10,000, and writes what came of it, as the command `load`. Usage where
+/// Tries the whole way of captions on a list of this many, 1 to 10,000, and writes what came of it, as the command `load`. Usage where
 /// there is no such list.
 #[unsafe(no_mangle)]
 pub extern "C" fn ccsuite_load(
@@ -321,7 +321,7 @@ pub extern "C" fn ccsuite_export_mcc(
     report.status
 }
 
-// How time codes count in an MCC file that has so many frames a second and begins at this time, if one may.
+// How time codes count in an MCC file that has this many frames a second and begins at this time, if one may.
 fn mcc_start(frames: u32, start: &StartTime) -> Option<Counting>
     ensures is { IfSome result (IsMccStart frames start.now) }
     ensures one { (count : Count) → IsMccStart frames start.now count → result ≡ Some count }
@@ -332,7 +332,7 @@ fn mcc_start(frames: u32, start: &StartTime) -> Option<Counting>
     }
 }
 
-// How time codes count that have so many frames a second, with drop frame or without.
+// How time codes count that have this many frames a second, with drop frame or without.
 fn counting_at(frames: u32, drop_frame: bool) -> Option<Counting>
     ensures count { result ≡ counting_at frames drop_frame }
     ensures counts { IfSome result (CountsSo frames drop_frame) }

@@ -70,7 +70,7 @@ pub struct WindowCell {
     pub edge: u8,
     /// The character's colour.
     pub foreground: Shade,
-    /// The colour behind it.
+    /// The colour after it.
     pub background: Shade,
     /// The colour of its edges.
     pub edge_colour: Edge,

@@ -205,7 +205,7 @@ fn feed_cc_data(
     }
 }
 
-/// Tells whether the words may end behind the bytes that were fed: 0. 32 where there is no open receiver, 6 where a word is refused, or
+/// Tells whether the words may end after the bytes that were fed: 0. 32 where there is no open receiver, 6 where a word is refused, or
 /// where the last bytes don't end a packet.
 #[unsafe(no_mangle)]
 pub extern "C" fn ccsuite_receiver_finish(
@@ -739,7 +739,7 @@ fn hand_out(text: &[u8], out: &mut [u8], written: &mut usize) -> u32
     0
 }
 
-/// Writes the text of all screens behind the last whole frame to the front of `out`, as `show` prints it: 0. Where nothing is written: 32
+/// Writes the text of all screens after the last whole frame to the front of `out`, as `show` prints it: 0. Where nothing is written: 32
 /// where there is no open receiver, 3 where there is too little room, 4 where memory isn't found.
 #[unsafe(no_mangle)]
 pub extern "C" fn ccsuite_receiver_screens(

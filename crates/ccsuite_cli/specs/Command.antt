@@ -57,7 +57,7 @@ IsRunnable (Some (Load count)) = (1 ≤ count) × (count ≤ most_load)
 IsRunnable (Some (Fit late)) = late ≤ most_late
 IsRunnable _ = ⊤
 
--- what stands behind the word of a command: nothing, or nothing or one argument, or one or two arguments, by their names in the line of
+-- what follows the word of a command: nothing, or nothing or one argument, or one or two arguments, by their names in the line of
 -- usage, which make it a command, if they make it one
 pub data Behind : Type 0 where
   Nothing : Command → Behind
@@ -65,7 +65,7 @@ pub data Behind : Type 0 where
   Argument : List ℕ → (List ℕ → Option Command) → Behind
   Arguments : List ℕ → List ℕ → (List ℕ → List ℕ → Option Command) → Behind
 
--- the commands, each by its word and what stands behind it, as the line of usage has them
+-- the commands, each by its word and what follows it, as the line of usage has them
 abbrev pub commands : List (List ℕ × Behind)
 commands =
     (codes "pairs", Nothing Pairs)
@@ -98,7 +98,7 @@ other_words =
     ∷ (codes "--version", Version)
     ∷ []
 
--- the command of what stands behind its word, if these arguments make it one
+-- the command of what follows its word, if these arguments make it one
 abbrev pub with_arguments : List (List ℕ) → Behind → Option Command
 with_arguments [] (Nothing command) = Some command
 with_arguments [] (Optional command more) = Some command

@@ -34,7 +34,7 @@ pub enum Command {
     Import,
     /// `export TIME`: the SCC file of the field 1 pairs of a words file, whose frame 0 has this time code.
     Export(TimeCode),
-    /// `load N`: what comes of a list of so many captions, 1 to 10,000.
+    /// `load N`: what comes of a list of this many captions, 1 to 10,000.
     Load(u32),
     /// `dual CUES`: the ancillary words of each frame of a cue list, with the one of the side file beside it on CC2 and CC4.
     Dual,
@@ -51,7 +51,7 @@ pub enum Command {
     ImportMcc,
     /// `export-mcc RATE TIME`: the MCC file of all packets of a words file, whose time codes count so and whose frame 0 has this one.
     ExportMcc(Counting, TimeCode),
-    /// `fit N`: a cue list whose cues are shown as few frames late as they need, at most so many, 0 to 1,000.
+    /// `fit N`: a cue list whose cues are shown as few frames late as they need, at most this many, 0 to 1,000.
     Fit(u32),
     /// `help`, and `help COMMAND`: a page of help.
     Help(Page),

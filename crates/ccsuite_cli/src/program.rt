@@ -22,7 +22,7 @@ use verify_commands::run_verify;
 use words_commands::{run_conceal, run_decode, run_show, run_xds_show};
 use xds_commands::run_xds;
 
-/// Runs the command of the words behind the program's name: reads `input`, puts to `out`, and ends with a status, whose
+/// Runs the command of the words after the program's name: reads `input`, puts to `out`, and ends with a status, whose
 /// one line is put to `err`. `side` is the file that a command names; a command that names none leaves it.
 pub fn run<M: Source, S: Source, O: Sink, E: Sink>(
     alloc: Global,

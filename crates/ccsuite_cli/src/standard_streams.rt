@@ -8,7 +8,7 @@ use std::io::{Read, Stdin};
 use std::process::ExitCode;
 use std::{env, io};
 
-/// The program: runs the command of the words behind its name over standard input, output and error, and ends with the status's
+/// The program: runs the command of the words after its name over standard input, output and error, and ends with the status's
 /// code.
 pub fn start(rt: HostRuntime) -> ExitCode {
     let alloc = rt.alloc();
@@ -45,7 +45,7 @@ fn is_open(mut input: Stdin) -> bool {
     input.read(&mut []).is_ok()
 }
 
-/// The words behind the program's name.
+/// The words after the program's name.
 fn read_words(rt: &HostRuntime) -> io::Result<Vec<String>> {
     Ok(env::args(rt)?.skip(1).collect(rt.alloc())?)
 }

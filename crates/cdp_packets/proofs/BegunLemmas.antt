@@ -36,7 +36,7 @@ or-right false c either not_b = either
 pub id_fits-is_id : (left id : ℕ) → id_fits left id ≡ true → is_id id ≡ true
 id_fits-is_id left id fits = and-left (is_id id) (nat_le 2 left) (and-left (is_id id && nat_le 2 left) _ fits)
 
--- a section behind its first two bytes, where so many bytes are left: it isn't whole, it has no more than these, and behind it
+-- a section after its first two bytes, where this many bytes are left: it isn't whole, it has no more than these, and after it
 -- stands no single byte
 pub record IsOpenBody (left id second : ℕ) (rest : List ℕ) : Type 0 where
   pub id_is : is_id id ≡ true
@@ -44,7 +44,7 @@ pub record IsOpenBody (left id second : ℕ) (rest : List ℕ) : Type 0 where
   pub room : section_rest id second ≤ left + length rest
   pub behind : left + length rest ≢ section_rest id second + 1
 
--- the open section, and sections behind it, can have so many more bytes
+-- the open section, and sections after it, can have this many more bytes
 abbrev pub CanGoOn : ℕ → List ℕ → Type 0
 CanGoOn left [] = left ≢ 1
 CanGoOn left (id ∷ []) = id_fits (left + 1) id ≡ true
@@ -56,7 +56,7 @@ pub record Ends (left : ℕ) (section : List ℕ) (byte : ℕ) : Type 0 where
   pub is : IsSection (section ++ byte ∷ [])
   pub behind : left ≢ 1
 
--- a section goes on with it
+-- a section continues with it
 pub record Lasts (left : ℕ) (section : List ℕ) (byte : ℕ) : Type 0 where
   pub after : section_behind section byte ≡ section ++ byte ∷ []
   pub goes : CanGoOn left (section ++ byte ∷ [])
@@ -92,7 +92,7 @@ count_goes left behind id byte same id_is fits =
           })
     ] in cases _ refl
 
--- a byte behind the first two
+-- a byte after the first two
 body_goes : (left behind id second : ℕ) (rest : List ℕ) (byte : ℕ) → left ≡ behind + 1 → IsOpenBody left id second rest
     → Ends behind (id ∷ second ∷ rest) byte ⊎ Lasts behind (id ∷ second ∷ rest) byte
 body_goes left behind id second rest byte same body =
@@ -199,7 +199,7 @@ rate_taken : (code : Option Rate) → IsTaken (judge_rate code) → (r : Rate) �
 rate_taken None taken = absurd taken
 rate_taken (Some rate) taken = (rate, refl)
 
--- behind a byte of a section
+-- after a byte of a section
 sections_grow : (size : ℕ) (body section triplet : List ℕ) (byte : ℕ) → length body + 11 < size → InSections size body section
     → IsTaken (judge_section (size - 11 - length body) section triplet byte) → InSections size (body ++ byte ∷ []) (section_behind section byte)
 sections_grow size body section triplet byte more begun taken =
@@ -227,7 +227,7 @@ sections_grow size body section triplet byte more begun taken =
       })
     ]
 
--- behind the first byte of the footer
+-- after the first byte of the footer
 footer_begins : (size high low total : ℕ) (body section : List ℕ) (byte : ℕ) → nat_lt (length body + 11) size ≡ false → InSections size body section
     → IsTaken (judge_footer (size - 7 - length body) high low total byte) → InFooter size high low (body ++ byte ∷ [])
 footer_begins size high low total body section byte none begun taken =
@@ -245,7 +245,7 @@ footer_begins size high low total body section byte none begun taken =
       begun = test-same byte 0x74 (taken-if (byte == 0x74) Nothing why.Section (subst (λ n. IsTaken (judge_footer n high low total byte)) four taken));
     }
 
--- behind the next bytes of the footer
+-- after the next bytes of the footer
 foot_grows : (high low total : ℕ) (foot : List ℕ) (byte : ℕ) → IsFoot high low foot → length foot < 4
     → IsTaken (judge_footer (4 - length foot) high low total byte) → IsFoot high low (foot ++ byte ∷ [])
 foot_grows high low total [] byte begun few taken = absurd begun
@@ -269,7 +269,7 @@ footer_grows size high low total body byte below begun taken =
       begun = foot_grows high low total begun.foot byte begun.begun (omega arith) (subst (λ n. IsTaken (judge_footer n high low total byte)) left taken);
     }
 
--- a footer has begun behind all sections
+-- a footer has begun after all sections
 foot_some : (high low : ℕ) (foot : List ℕ) → IsFoot high low foot → 0 < length foot
 foot_some high low [] begun = absurd begun
 foot_some high low (id ∷ rest) begun = omega arith
@@ -281,7 +281,7 @@ footer_long size high low body begun =
     let whole : length body ≡ length (concat begun.cut) + length begun.foot = ap length begun.spelled ∙ length-append (concat begun.cut) begun.foot in
     omega arith
 
--- behind one more byte of the sections or the footer
+-- after one more byte of the sections or the footer
 body_grows : (size high low total : ℕ) (body section triplet : List ℕ) (byte : ℕ) → length body + 7 < size
     → InSections size body section ⊎ InFooter size high low body
     → IsTaken (if nat_lt (length body + 11) size then judge_section (size - 11 - length body) section triplet byte

@@ -96,7 +96,7 @@ footer_completes size head done section triplet long small also =
     Completes-with size _ _ 0x74 _ reads no_filling (lit< tt) (omega (arith, longer))
     (high_completes size head (done ++ 0x74 ∷ []) [] [] (omega (arith, longer, long)) small also)
 
--- a byte 00 behind a section's first two
+-- a byte 00 after a section's first two
 abbrev zero_step : ℕ → List ℕ → Step CdpPart
 zero_step id triplet = if id == 0x72 then judge_triplet triplet 0 else One (part.SectionByte 0)
 
@@ -116,7 +116,7 @@ zero_filling true (first ∷ second ∷ more) =
     let triplet = part.Triplet (triplet_of first second 0) in
     All-cons IsFilling (part.SectionByte 0) (triplet ∷ []) tt (one_filling triplet refl)
 
--- what follows a section, where so many bytes are left
+-- what follows a section, where this many bytes are left
 abbrev Follows : ℕ → Seven → ℕ → Type 0
 Follows size head left = (done triplet : List ℕ) → length done + 11 + left ≡ size → Completes size (front_of (seven head done) [] triplet)
 
@@ -141,7 +141,7 @@ fill size head (suc count) left done id second rest triplet whole long follows =
     (subst (λ s. Completes size (front_of (seven head (done ++ 0 ∷ [])) s (triplet_behind (id ∷ second ∷ rest) triplet 0)))
     (sym (ap (λ (t : Bool). if t then [] else id ∷ second ∷ (rest ++ 0 ∷ [])) lasts)) next)
 
--- a section behind its first two bytes, and what follows it
+-- a section after its first two bytes, and what follows it
 body_completes : (size : ℕ) (head : Seven) (left : ℕ) (done : List ℕ) (id second : ℕ) (rest triplet : List ℕ) → length rest < section_rest id second
     → length done + 11 + (section_rest id second - length rest + left) ≡ size → Follows size head left → Completes size (front_of (seven head done) (id ∷ second ∷ rest) triplet)
 body_completes size head left done id second rest triplet some long follows =
@@ -312,7 +312,7 @@ goes_on size bytes can small are room read =
     let (packet, packet_is) = sound size (bytes ++ rest.more) can whole (AllTaken-append (cdp_syntax size) nothing_open bytes rest.more read rest.taken) in
     record { more = rest.more; bytes_are = rest.bytes_are; long = whole; packet = packet; is = packet_is; filling = rest.filling }
 
--- and no packet goes on with a byte that is refused
+-- and no packet can continue with a byte that is refused
 pub refused_goes_nowhere : (size : ℕ) (bytes : List ℕ) (byte : ℕ) (reason : Why) (more : List ℕ) (packet : Frame)
     → judge_cdp size (open_behind (cdp_syntax size) bytes) byte ≡ Refuse reason → IsCdp packet (bytes ++ byte ∷ more) → length (bytes ++ byte ∷ more) ≡ size → ⊥
 refused_goes_nowhere size bytes byte reason more packet refused is long =

@@ -1,4 +1,4 @@
--- Which ids and counts fit: those with which some list of sections of so many bytes goes on.
+-- Which ids and counts fit: those with which some list of sections of this many bytes goes on.
 use Rattle.std.proofs.Common.{◌≡◌, ◌≢◌, ◌↔◌, ℕ, ◌+◌, ◌-◌, ◌*◌, ◌%◌, ◌<◌, ◌≤◌, ◌==◌, ◌&&◌, ◌||◌, not, nat_le, if◌then◌else◌, Bool, true, false, List, [], ◌∷◌, ◌++◌, length, replicate, refl, sym, ap, subst, ◌∙◌, length-append, lit<, arith}
 use Rattle.std.proofs.lemmas.Bool.Decides.{nat_tests}
 use Rattle.std.proofs.lemmas.List.{length-replicate}
@@ -25,7 +25,7 @@ pub or-second : (b c : Bool) → c ≡ true → (b || c) ≡ true
 or-second true c is = refl
 or-second false c is = is
 
--- the id of a section that has its bytes, with no single byte behind it
+-- the id of a section that has its bytes, with no single byte after it
 time_code_fits : (left more : ℕ) → left ≡ 2 + 3 + more → more ≢ 1 → (nat_le 5 left && not (left == 6)) ≡ true
 time_code_fits left more long none = grind (arith, nat_tests)
 
@@ -69,7 +69,7 @@ count_fits-section left id second more long none = numbers (section_rest id seco
     numbers : (n : ℕ) → left ≡ 1 + n + more → (nat_le (n + 1) left && not (left == n + 2)) ≡ true
     numbers n long = grind (arith, nat_tests)
 
--- an id that fits, with a second byte and with so many bytes behind its section
+-- an id that fits, with a second byte and with this many bytes after its section
 pub record Choice (left id : ℕ) : Type 0 where
   pub second : ℕ
   pub small : second < 256
@@ -87,7 +87,7 @@ time_code_choice left fits =
     let not_six : left ≢ 6 = λ e. grind (arith, nat_tests) in
     record { second = 0; small = lit< tt; more = left - 5; none = λ e. not_six (omega arith); long = omega arith }
 
--- room for a section without bytes behind its first two
+-- room for a section without bytes after its first two
 two_and_more : (left : ℕ) → (nat_le 2 left && not (left == 3)) ≡ true → (2 ≤ left) × (left ≢ 3)
 two_and_more left fits = (grind (arith, nat_tests), λ e. grind (arith, nat_tests))
 
@@ -129,7 +129,7 @@ id_fits-choice left id fits few =
 abbrev IsByte : ℕ → Type 0
 IsByte byte = byte < 256
 
--- bytes are sections, so many
+-- bytes are sections, this many
 record Fitting (left : ℕ) : Type 0 where
   pub cut : List (List ℕ)
   pub are : AreSections cut
@@ -139,7 +139,7 @@ record Fitting (left : ℕ) : Type 0 where
 zeros_are : (n : ℕ) → All IsByte (replicate n 0)
 zeros_are n = All-replicate IsByte n 0 (lit< tt)
 
--- sections of so many bytes
+-- sections of this many bytes
 fitting : (left : ℕ) → left < 258 → left ≢ 1 → Fitting left
 fitting left few none =
     let cases : (t : Bool) → (left == 0) ≡ t → Fitting left = elim [
@@ -157,7 +157,7 @@ fitting left few none =
           }
     ] in cases _ refl
 
--- sections that begin with this id and second byte, and go on with bytes, so many from the second one on
+-- sections that begin with this id and second byte, and continue with bytes, this many from the second one on
 pub record Continues (left id second : ℕ) : Type 0 where
   pub rest : List ℕ
   pub bytes_are : All IsByte rest
@@ -176,7 +176,7 @@ continues left id second more is none few long =
       long = omega (arith, long, many, behind.long, length-append zeros (concat behind.cut));
     }
 
--- the first section of a list of sections, and how many bytes stand behind it
+-- the first section of a list of sections, and how many bytes follow it
 record Begins (id second : ℕ) (rest : List ℕ) : Type 0 where
   pub is : is_id id ≡ true
   pub more : ℕ
@@ -221,7 +221,7 @@ id_fits-is left id few = (
   λ can. id_fits-from left id can.rest can.are can.long,
 )
 
--- and a second byte where some go on with it
+-- and a second byte where some can continue with it
 pub count_fits-is : (left id count : ℕ) → left < 256 → is_id id ≡ true → (count_fits left id count ≡ true) ↔ CanBegin (left + 1) (id ∷ count ∷ [])
 count_fits-is left id count few is = (
   λ fits.

@@ -10,7 +10,7 @@ use Rattle.cdp_packets.specs.Packets.{Frame, IsCdp}
 use Rattle.cdp_packets.specs.Written.{checksum_of, unsummed_packet, written_packet}
 use Rattle.cdp_packets.proofs.SectionLemmas.{split_same, sections_cut_once}
 
--- the byte behind a list that makes the sum 0
+-- the byte after a list that makes the sum 0
 checksum-sum : (bytes : List ℕ) → sum (bytes ++ checksum_of bytes ∷ []) % 256 ≡ 0
 checksum-sum bytes =
     let whole : sum (bytes ++ checksum_of bytes ∷ []) ≡ sum bytes + checksum_of bytes = grind (arith, common_steps) in

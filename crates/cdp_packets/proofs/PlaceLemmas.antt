@@ -32,7 +32,7 @@ rate_refused : (code : Option Rate) (reason : Why) → judge_rate code ≡ Refus
 rate_refused None reason is = cc
 rate_refused (Some rate) reason is = absurd cc
 
--- bytes that stand behind whole sections
+-- bytes that follow whole sections
 behind_sections : (bytes body section : List ℕ) (size : ℕ) → drop 7 bytes ≡ body → (begun : InSections size body section) → section ≡ [] → IsSectionList (drop 7 bytes)
 behind_sections bytes body section size same begun empty = record {
   cut = begun.cut;
@@ -67,7 +67,7 @@ either : (reason : Why) (goal : Type 0) (test : Bool) (one two : Step CdpPart) �
 either reason goal true one two taken other is = taken refl is
 either reason goal false one two taken other is = other is
 
--- a byte of the footer, where the id stands behind whole sections
+-- a byte of the footer, where the id follows whole sections
 footer_stands : (size : ℕ) (bytes : List ℕ) (left high low total byte : ℕ) (reason : Why) → length bytes + left ≡ size → (left ≡ 4 → EndWithSections bytes)
     → judge_footer left high low total byte ≡ Refuse reason → StandsAt size bytes reason
 footer_stands size bytes left high low total byte reason whole behind is =
@@ -105,7 +105,7 @@ sections_end size high low bytes body section seven same whole (inl begun) =
     (seven, behind_sections bytes body section size same begun (none_open section (subst (λ n. CanGoOn n section) none_left begun.can)))
 sections_end size high low bytes body section seven same whole (inr footer) = absurd (omega (arith, footer_long size high low body footer))
 
--- a byte behind the first seven
+-- a byte after the first seven
 body_stands : (size high low total : ℕ) (bytes body section triplet : List ℕ) (byte : ℕ) (reason : Why) → length bytes ≡ length body + 7 → drop 7 bytes ≡ body
     → length bytes ≤ size → InSections size body section ⊎ InFooter size high low body
     → (if nat_lt (length body + 11) size then judge_section (size - 11 - length body) section triplet byte
@@ -138,7 +138,7 @@ refused_stands size (_ ∷ _ ∷ _ ∷ _ ∷ _ ∷ _ ∷ []) total section tripl
 refused_stands size (mark ∷ second ∷ long ∷ rate ∷ flags ∷ high ∷ low ∷ body) total section triplet byte reason below begun is =
     body_stands size high low total (mark ∷ second ∷ long ∷ rate ∷ flags ∷ high ∷ low ∷ body) body section triplet byte reason (omega arith) refl below begun.1 is
 
--- behind bytes that are read
+-- after bytes that are read
 pub refusal_stands : (size : ℕ) (bytes : List ℕ) (byte : ℕ) (reason : Why) → IsPacketLength size → length bytes ≤ size → AllRead (cdp_syntax size) bytes
     → judge_cdp size (open_behind (cdp_syntax size) bytes) byte ≡ Refuse reason → StandsAt size bytes reason
 refusal_stands size bytes byte reason can below read is =

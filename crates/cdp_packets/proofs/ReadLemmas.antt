@@ -39,7 +39,7 @@ seven head body = head.mark ∷ head.second ∷ head.long ∷ head.rate ∷ head
 abbrev pub front_of : List ℕ → List ℕ → List ℕ → Open
 front_of bytes section triplet = record { bytes = bytes; total = sum bytes; section = section; triplet = triplet }
 
--- what is made of a byte of the sections, of which so many are left
+-- what is made of a byte of the sections, of which this many are left
 pub judge_cdp-in : (size : ℕ) (head : Seven) (done section triplet : List ℕ) (left byte : ℕ) → length done + 11 + left ≡ size → 0 < left
     → judge_cdp size (front_of (seven head done) section triplet) byte ≡ judge_section left section triplet byte
 judge_cdp-in size head done section triplet left byte long some =
@@ -59,7 +59,7 @@ judge_cdp-out size head done section triplet left byte long few =
     ap (λ (t : Bool). if t then in_sections else judge_footer (size - 7 - length done) head.high head.low (sum (seven head done)) byte) none
     ∙ ap (λ n. judge_footer n head.high head.low (sum (seven head done)) byte) left_is
 
--- what is open behind a byte
+-- what is open after a byte
 abbrev next_open : List ℕ → List ℕ → List ℕ → Bool → ℕ → Open
 next_open bytes section triplet inside byte = record {
   bytes = bytes ++ byte ∷ [];
@@ -118,14 +118,14 @@ head_byte size bytes section triplet byte step below outside is taken =
     Reads-one (cdp_syntax size) _ byte step _ is taken
     (open_after-next size bytes section triplet byte below ∙ ap (λ (t : Bool). next_open bytes section triplet t byte) outside)
 
--- the parts of the bytes behind a section's first two: with triplets or without, and this open triplet
+-- the parts of the bytes after a section's first two: with triplets or without, and this open triplet
 abbrev body_parts : Bool → List ℕ → List ℕ → List CdpPart
 body_parts triplets triplet [] = []
 body_parts triplets triplet (byte ∷ rest) =
     step_parts (if triplets then judge_triplet triplet byte else One (part.SectionByte byte))
     ++ body_parts triplets (if triplets then bytes_behind triplet byte else []) rest
 
--- the open triplet behind them
+-- the open triplet after them
 abbrev triplet_from : Bool → List ℕ → List ℕ → List ℕ
 triplet_from triplets triplet [] = triplet
 triplet_from triplets triplet (byte ∷ rest) = triplet_from triplets (if triplets then bytes_behind triplet byte else []) rest
@@ -152,14 +152,14 @@ section_body_parts id second rest long =
       | false ↦ λ other. body_parts-plain rest
     ] in cases _ refl
 
--- a byte behind a section's first two is never refused
+-- a byte after a section's first two is never refused
 pub body_taken : (triplets : Bool) (triplet : List ℕ) (byte : ℕ) → IsTaken (if triplets then judge_triplet triplet byte else One (part.SectionByte byte))
 body_taken false triplet byte = tt
 body_taken true [] byte = tt
 body_taken true (first ∷ []) byte = tt
 body_taken true (first ∷ second ∷ more) byte = tt
 
--- the bytes behind a section's first two, to its end
+-- the bytes after a section's first two, to its end
 body_read : (size : ℕ) (head : Seven) (done : List ℕ) (id second : ℕ) (before triplet rest : List ℕ) (more : ℕ)
     → length before + length rest ≡ section_rest id second → 0 < length rest → length done + 11 + (length rest + more) ≡ size
     → Reads (cdp_syntax size) (front_of (seven head done) (id ∷ second ∷ before) triplet) rest (body_parts (id == 0x72) triplet rest) (front_of (seven head (done ++ rest)) [] (triplet_from (id == 0x72) triplet rest))
@@ -326,7 +326,7 @@ pub packet_handed : (verdict : Verdict CdpPart) (packet : Frame) (bytes : List �
 packet_handed verdict packet bytes is accepted =
     read_under-reads (cdp_syntax (length bytes)) 1 verdict bytes (packet_parts packet) (front_of bytes [] []) (packet_read packet bytes is) accepted
 
--- bytes behind the packet's end make nothing
+-- bytes after the packet's end make nothing
 nothing_behind : (size : ℕ) (bytes : List ℕ) (total : ℕ) (section triplet : List ℕ) (byte : ℕ) → IsPacketLength size → length bytes ≡ size
     → judge_behind size bytes total section triplet byte ≡ Nothing
 nothing_behind size [] total section triplet byte can all = absurd (omega (arith, can.0))

@@ -1,4 +1,4 @@
--- Sections behind one another: where the first ends, and that bytes are cut into sections in one way.
+-- Sections after one another: where the first ends, and that bytes are cut into sections in one way.
 use Rattle.std.proofs.Common.{◌≡◌, ℕ, ◌+◌, ◌<◌, ◌≤◌, ◌++◌, List, [], ◌∷◌, length, get_or, take, drop, All, refl, sym, ap, subst, ◌∙◌, append_assoc, append-nil, length-append, arith}
 use Rattle.std.proofs.Math.Seq.{take-append_seam, drop-append_seam}
 use Rattle.std.specs.List.{concat}
@@ -97,7 +97,7 @@ sections_cut_once ((id ∷ second ∷ rest) ∷ ss) ((id' ∷ second' ∷ rest')
 pub no_sections : IsSectionList []
 no_sections = record { cut = []; are = tt; joined = refl }
 
--- one more section behind a list of sections
+-- one more section after a list of sections
 pub are-push : (ss : List (List ℕ)) (s : List ℕ) → AreSections ss → IsSection s → AreSections (ss ++ s ∷ [])
 are-push [] s are is = (is, tt)
 are-push (t ∷ ss) s are is = (are.0, are-push ss s are.1 is)

@@ -47,7 +47,7 @@ pub record IsOpen (size : ℕ) (front : Open) : Type 0 where
   pub total_is : front.total ≡ sum front.bytes
   pub ended : length front.bytes ≡ size → sum front.bytes % 256 ≡ 0
 
--- behind one more byte, where the packet hasn't ended
+-- after one more byte, where the packet hasn't ended
 pub open_after-more : (size : ℕ) (front : Open) (byte : ℕ) → length front.bytes < size
     → open_after size front byte ≡ record {
       bytes = front.bytes ++ byte ∷ [];
@@ -106,7 +106,7 @@ all_open size (byte ∷ items) front can is (first, taken) = all_open size items
 pub nothing_open-is : (size : ℕ) → IsPacketLength size → IsOpen size nothing_open
 nothing_open-is size can = record { below = omega arith; begun = tt; total_is = refl; ended = λ all. absurd (omega (arith, can.0, all)) }
 
--- what is open behind bytes keeps them, up to the packet's end
+-- what is open after bytes keeps them, up to the packet's end
 pub bytes_behind-is : (size : ℕ) (items : List ℕ) (front : Open) → length front.bytes + length items ≤ size
     → (front_from (cdp_syntax size).after front items).bytes ≡ front.bytes ++ items
 bytes_behind-is size [] front room = sym (append-nil front.bytes)

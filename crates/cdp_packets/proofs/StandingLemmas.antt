@@ -8,7 +8,7 @@ use Rattle.cdp_packets.specs.Refusals.{EndWithId, EndWithSections, StandsAt}
 use Rattle.cdp_packets.specs.Sections.{AreSections, IsSection, IsSectionList}
 use Rattle.cdp_packets.proofs.SectionLemmas.{length-section, split_same, two_bytes}
 
--- behind the first section of bytes stands one list
+-- after the first section of bytes stands one list
 section_behind : (section other rest more : List ℕ) → IsSection section → IsSection other → section ++ rest ≡ other ++ more → rest ≡ more
 section_behind section other rest more is other_is same =
     let long = length-section (section ++ rest) section rest is refl in

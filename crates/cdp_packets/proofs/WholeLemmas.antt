@@ -16,7 +16,7 @@ pub record SameList (bytes rest : List ℕ) : Type 0 where
   pub behind : IsSectionList bytes → IsSectionList rest
   pub before : IsSectionList rest → IsSectionList bytes
 
--- where bytes begin with a section, the bytes behind it are the rest of the list
+-- where bytes begin with a section, the bytes after it are the rest of the list
 rest_list : (section behind bytes : List ℕ) → IsSection section → bytes ≡ section ++ behind → IsSectionList bytes → IsSectionList behind
 rest_list section behind bytes is spelled list =
     let long = length-append section behind in
@@ -92,7 +92,7 @@ packet_framed packet bytes is =
       total = is.total;
     }
 
--- the last four bytes stand behind the others
+-- the last four bytes follow the others
 last_four : (bytes : List ℕ) (n : ℕ) → n + 4 ≡ length bytes
     → bytes ≡ take n bytes ++ get_or bytes n 0 ∷ get_or bytes (suc n) 0 ∷ get_or bytes (suc (suc n)) 0 ∷ get_or bytes (suc (suc (suc n))) 0 ∷ []
 last_four (a ∷ b ∷ c ∷ d ∷ []) zero long = refl

@@ -8,7 +8,7 @@ use Rattle.cdp_packets.specs.declared.parts.CdpPart.{CdpPart}
 use Rattle.cdp_packets.specs.declared.parts.CdpPart.TheVariants as part
 use Rattle.cdp_packets.specs.Packets.{Frame}
 
--- the parts of triplets, three bytes each: behind the second byte stands the triplet with a third byte 0, and behind the third
+-- the parts of triplets, three bytes each: after the second byte stands the triplet with a third byte 0, and after the third
 -- byte the triplet
 abbrev pub triplet_parts : List ℕ → List CdpPart
 triplet_parts (first ∷ second ∷ third ∷ rest) =
@@ -16,7 +16,7 @@ triplet_parts (first ∷ second ∷ third ∷ rest) =
     ∷ part.SectionByte third ∷ part.Triplet (triplet_of first second third) ∷ triplet_parts rest
 triplet_parts _ = []
 
--- the parts of a section: its id, its second byte, and the bytes behind these, in a cc_data section with their triplets
+-- the parts of a section: its id, its second byte, and the bytes after these, in a cc_data section with their triplets
 abbrev pub section_parts : List ℕ → List CdpPart
 section_parts (id ∷ second ∷ rest) =
     part.SectionByte id ∷ part.SectionByte second ∷ (if id == 0x72 then triplet_parts rest else map part.SectionByte rest)

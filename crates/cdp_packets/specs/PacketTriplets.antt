@@ -6,7 +6,7 @@ use Rattle.cc_data.specs.declared.triplet.Triplet.{Triplet}
 use Rattle.cc_data.specs.Triplets.{triplets_of}
 use Rattle.cdp_packets.specs.Packets.{Frame}
 
--- the triplets of a section: those behind the count of a cc_data section, and none of another section
+-- the triplets of a section: those after the count of a cc_data section, and none of another section
 abbrev pub section_triplets : List ℕ → List Triplet
 section_triplets (id ∷ second ∷ rest) = if id == 0x72 then triplets_of rest else []
 section_triplets _ = []

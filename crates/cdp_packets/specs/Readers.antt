@@ -30,7 +30,7 @@ next_of_section (id ∷ []) triplet = within.Count id
 next_of_section (id ∷ second ∷ rest) triplet =
     if id == 0x72 then within.Triplet (section_rest id second - length rest) (kept_of_triplet triplet) else within.Body (section_rest id second - length rest)
 
--- the byte of the footer that comes next, where so many are left
+-- the byte of the footer that comes next, where this many are left
 abbrev pub next_of_footer : ℕ → Place
 next_of_footer left =
     if left == 4 then place.Footer footer.Id
@@ -71,7 +71,7 @@ pub record Keeps (size : ℕ) (front : Open) (packet : OpenPacket) : Type 0 wher
   pub low : packet.low ≡ low_counter_byte front.bytes
   pub total : packet.total ≡ front.total % 256
 
--- what is kept behind one more byte, where this one comes next
+-- what is kept after one more byte, where this one comes next
 pub record GoesOn (old : OpenPacket) (byte : ℕ) (following : Place) (new : OpenPacket) : Type 0 where
   pub next : new.next ≡ following
   -- one byte fewer is left

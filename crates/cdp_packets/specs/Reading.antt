@@ -22,14 +22,14 @@ use Rattle.cdp_packets.specs.Sections.{is_id, section_rest}
 abbrev pub IsPacketLength : ℕ → Type 0
 IsPacketLength size = (11 ≤ size) × (size ≢ 12)
 
--- some list of sections of so many bytes begins with this id: the section needs two bytes, a time code five, and behind it
+-- some list of sections of this many bytes begins with this id: the section needs two bytes, a time code five, and after it
 -- stands no single byte
 abbrev pub id_fits : ℕ → ℕ → Bool
 id_fits left id = is_id id && nat_le 2 left
     && (if id == 0x71 then nat_le 5 left && not (left == 6) else if nat_le id 0x73 then not (left == 3) else true)
 
--- some list of sections goes on with this second byte, where so many bytes are left, itself among them: the section has no
--- more than these, and behind it stands no single byte
+-- some list of sections can continue with this second byte, where this many bytes are left, itself among them: the section has no
+-- more than these, and after it stands no single byte
 abbrev pub count_fits : ℕ → ℕ → ℕ → Bool
 count_fits left id count = nat_le (section_rest id count + 1) left && not (left == section_rest id count + 2)
 
@@ -39,14 +39,14 @@ judge_triplet [] byte = One (part.SectionByte byte)
 judge_triplet (first ∷ []) byte = Two (part.SectionByte byte) (part.Half (triplet_of first byte 0))
 judge_triplet (first ∷ second ∷ more) byte = Two (part.SectionByte byte) (part.Triplet (triplet_of first second byte))
 
--- what is made of a byte of the sections, where so many are left, itself among them, after the open section and triplet
+-- what is made of a byte of the sections, where this many are left, itself among them, after the open section and triplet
 abbrev pub judge_section : ℕ → List ℕ → List ℕ → ℕ → Step CdpPart
 judge_section left [] triplet byte = if id_fits left byte then One (part.SectionByte byte) else Refuse why.Section
 judge_section left (id ∷ []) triplet byte =
     if id == 0x71 || count_fits left id byte then One (part.SectionByte byte) else Refuse why.Count
 judge_section left (id ∷ second ∷ rest) triplet byte = if id == 0x72 then judge_triplet triplet byte else One (part.SectionByte byte)
 
--- what is made of a byte of the footer, where so many are left, itself among them: the footer's id, the counter of this high
+-- what is made of a byte of the footer, where this many are left, itself among them: the footer's id, the counter of this high
 -- and low byte, and the byte that makes the sum 0 with the bytes before it
 abbrev pub judge_footer : ℕ → ℕ → ℕ → ℕ → ℕ → Step CdpPart
 judge_footer left high low total byte =
@@ -93,19 +93,19 @@ abbrev pub judge_cdp : ℕ → Open → ℕ → Step CdpPart
 judge_cdp size open_packet byte =
     judge_behind size open_packet.bytes open_packet.total open_packet.section open_packet.triplet byte
 
--- the open section behind one more byte: none, where that was its last
+-- the open section after one more byte: none, where that was its last
 abbrev pub section_behind : List ℕ → ℕ → List ℕ
 section_behind [] byte = byte ∷ []
 section_behind (id ∷ []) byte = if section_rest id byte == 0 then [] else id ∷ byte ∷ []
 section_behind (id ∷ second ∷ rest) byte = if nat_le (section_rest id second) (length rest + 1) then [] else id ∷ second ∷ (rest ++ byte ∷ [])
 
--- the open triplet behind one more byte
+-- the open triplet after one more byte
 abbrev pub bytes_behind : List ℕ → ℕ → List ℕ
 bytes_behind [] byte = byte ∷ []
 bytes_behind (first ∷ []) byte = first ∷ byte ∷ []
 bytes_behind (first ∷ second ∷ more) byte = []
 
--- triplets stand behind the first two bytes of a cc_data section
+-- triplets follow the first two bytes of a cc_data section
 abbrev pub triplet_behind : List ℕ → List ℕ → ℕ → List ℕ
 triplet_behind (id ∷ second ∷ rest) triplet byte = if id == 0x72 then bytes_behind triplet byte else []
 triplet_behind section triplet byte = []
@@ -115,7 +115,7 @@ abbrev pub is_in_sections : ℕ → List ℕ → Bool
 is_in_sections size (mark ∷ second ∷ long ∷ rate ∷ flags ∷ high ∷ low ∷ body) = nat_lt (length body + 11) size
 is_in_sections size bytes = false
 
--- what is open behind one more byte; bytes behind the packet's last one change nothing
+-- what is open after one more byte; bytes after the packet's last one change nothing
 abbrev pub open_after : ℕ → Open → ℕ → Open
 open_after size open_packet byte =
     if nat_lt (length open_packet.bytes) size then record {

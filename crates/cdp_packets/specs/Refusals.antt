@@ -6,18 +6,18 @@ use Rattle.cc_base.specs.declared.why.Why.{Why}
 use Rattle.cc_base.specs.declared.why.Why.TheVariants as why
 use Rattle.cdp_packets.specs.Sections.{IsSectionList, is_id}
 
--- some list of sections of so many bytes begins with these
+-- some list of sections of this many bytes begins with these
 pub record CanBegin (left : ℕ) (front : List ℕ) : Type 0 where
   pub rest : List ℕ
   pub bytes_are : All (λ byte. byte < 256) rest
   pub are : IsSectionList (front ++ rest)
   pub long : length (front ++ rest) ≡ left
 
--- the bytes end with whole sections: seven bytes of the header, and behind them a list of sections
+-- the bytes end with whole sections: seven bytes of the header, and after them a list of sections
 abbrev pub EndWithSections : List ℕ → Type 0
 EndWithSections bytes = (7 ≤ length bytes) × IsSectionList (drop 7 bytes)
 
--- the bytes end with the id of a section, behind whole sections
+-- the bytes end with the id of a section, after whole sections
 pub record EndWithId (bytes : List ℕ) : Type 0 where
   pub seven : 7 ≤ length bytes
   pub sections : List ℕ
@@ -26,9 +26,9 @@ pub record EndWithId (bytes : List ℕ) : Type 0 where
   pub id_is : is_id id ≡ true
   pub spelled : drop 7 bytes ≡ sections ++ id ∷ []
 
--- behind these bytes, in a packet of this length, a byte may be refused for this reason: the identifier is the first two bytes,
--- the length the third, the rate the fourth; a section's id, or the footer's, stands behind whole sections, and a count
--- behind an id; the footer is the last four bytes, its id, the counter and the sum
+-- after these bytes, in a packet of this length, a byte may be refused for this reason: the identifier is the first two bytes,
+-- the length the third, the rate the fourth; a section's id, or the footer's, follows whole sections, and a count
+-- after an id; the footer is the last four bytes, its id, the counter and the sum
 abbrev pub StandsAt : ℕ → List ℕ → Why → Type 0
 StandsAt size bytes why.Identifier = length bytes < 2
 StandsAt size bytes why.Length = length bytes ≡ 2

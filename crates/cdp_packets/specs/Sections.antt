@@ -8,7 +8,7 @@ use Rattle.std.specs.List.{concat}
 abbrev pub is_id : ℕ → Bool
 is_id id = nat_le 0x71 id && nat_le id 0x73 || nat_le 0x75 id && nat_le id 0xEF
 
--- the number of bytes behind the second one: three more of a time code, three a triplet, seven a service, or as many
+-- the number of bytes after the second one: three more of a time code, three a triplet, seven a service, or as many
 -- as the second byte says
 abbrev pub section_rest : ℕ → ℕ → ℕ
 section_rest id second =
@@ -27,7 +27,7 @@ abbrev pub AreSections : List (List ℕ) → Type 0
 AreSections [] = Unit {0}
 AreSections (section ∷ sections) = IsSection section × AreSections sections
 
--- bytes are a list of sections, one behind another
+-- bytes are a list of sections, one after another
 pub record IsSectionList (bytes : List ℕ) : Type 0 where
   pub cut : List (List ℕ)
   pub are : AreSections cut

@@ -65,7 +65,7 @@ pub fn written_triplets_are_read_back()
         ≡ triplets }
 {}
 
-/// A packet is read to its end: none of its bytes is refused, they make its parts, and no section is open behind them. Under a
+/// A packet is read to its end: none of its bytes is refused, they make its parts, and no section is open after them. Under a
 /// layer that takes these parts they are handed upward, and there is no refusal.
 pub fn packets_are_read()
     ensures length { (packet : Frame) (bytes : List ℕ) → IsCdp packet bytes
@@ -80,7 +80,7 @@ pub fn packets_are_read()
 {}
 
 /// What is read is a packet: as many bytes as the packet is to have, none of which is refused, are a packet, and make its parts.
-/// Bytes behind them change nothing. Where there is no refusal, no byte was refused, and the layer above took all parts.
+/// Bytes after them change nothing. Where there is no refusal, no byte was refused, and the layer above took all parts.
 pub fn what_is_read_is_a_packet()
     ensures packet { (size : ℕ) (bytes : List ℕ) → IsPacketLength size → length bytes ≡ size
         → AllRead (cdp_syntax size) bytes
@@ -110,7 +110,7 @@ pub fn a_byte_is_refused_where_no_packet_goes_on()
 {}
 
 /// An id fits exactly where some list of sections of as many bytes as are left begins with it, and the second byte of a section
-/// exactly where some such list goes on with it.
+/// exactly where some such list can continue with it.
 pub fn sections_fit_where_some_can_follow()
     ensures id { (left id : ℕ) → left < 256 → IsTrue (id_fits left id) ↔ CanBegin left (id ∷ []) }
     ensures count { (left id count : ℕ) → left < 256 → IsTrue (is_id id)

@@ -17,7 +17,7 @@ pub(crate) enum Place {
     Head(Head),
     /// One of a section.
     Sections(Within),
-    /// One of the four bytes behind the sections.
+    /// One of the four bytes after the sections.
     Footer(Footer),
     /// None: the packet has ended.
     Done,
@@ -73,7 +73,7 @@ pub(crate) struct OpenPacket {
     pub(crate) total: u8,
 }
 
-// What comes next behind a byte where so many bytes of the sections are left: this one of them, or the footer.
+// What comes next after a byte where this many bytes of the sections are left: this one of them, or the footer.
 fn sections_or_footer(left: u8, within: Within) -> Place
     ensures { result ≡ (if nat_lt 0 left then place.Sections within else place.Footer footer.Id) }
 {
@@ -102,7 +102,7 @@ impl OpenPacket {
         }
     }
 
-    // Goes on behind a byte.
+    // Goes on after a byte.
     fn go_on(&mut self, item: u8, next: Place, step: Step<CdpPart>) -> Step<CdpPart>
         ensures says { result ≡ step }
         ensures behind { GoesOn self.old item next self.new }
@@ -113,7 +113,7 @@ impl OpenPacket {
         step
     }
 
-    // Judges a byte that has to be this one, and goes on behind it.
+    // Judges a byte that has to be this one, and goes on after it.
     fn fixed(&mut self, item: u8, expected: u8, why: Why, next: Place) -> Step<CdpPart>
         ensures says { result ≡ (if item == expected then Nothing else Refuse why) }
         ensures behind { GoesOn self.old item next self.new }
@@ -125,7 +125,7 @@ impl OpenPacket {
         self.go_on(item, next, step)
     }
 
-    // Judges a byte before the sections, and goes on behind it where it isn't refused.
+    // Judges a byte before the sections, and goes on after it where it isn't refused.
     fn head(&mut self, head: Head, item: u8) -> Step<CdpPart>
         ensures says { (size : ℕ) (front : Open) → Keeps size front self.old
             → self.old.next ≡ place.Head head
@@ -162,7 +162,7 @@ impl OpenPacket {
         }
     }
 
-    // Judges a byte of the sections, and goes on behind it where it isn't refused.
+    // Judges a byte of the sections, and goes on after it where it isn't refused.
     fn section(&mut self, within: Within, item: u8) -> Step<CdpPart>
         ensures says { (size : ℕ) (front : Open) → Keeps size front self.old
             → self.old.next ≡ place.Sections within
@@ -176,7 +176,7 @@ impl OpenPacket {
         self.go_on(item, next, step)
     }
 
-    // Judges a byte of the footer, and goes on behind it where it isn't refused.
+    // Judges a byte of the footer, and goes on after it where it isn't refused.
     fn footer(&mut self, footer: Footer, item: u8) -> Step<CdpPart>
         ensures says { (size : ℕ) (front : Open) → Keeps size front self.old
             → self.old.next ≡ place.Footer footer

@@ -57,7 +57,7 @@ pub(crate) fn total(bytes: &[u8]) -> u8
 // The identifier, with which every packet begins.
 const IDENTIFIER: [u8; 2] = [0x96, 0x69];
 
-// The bytes of a packet before its sections and behind them.
+// The bytes of a packet before its sections and after them.
 const AROUND_SECTIONS: usize = 7 + 4;
 
 // The four bits beside the rate.

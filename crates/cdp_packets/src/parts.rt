@@ -13,9 +13,9 @@ pub enum CdpPart {
     /// The next byte of a section; its id and count come as such parts too.
     SectionByte(u8),
     /// The first two bytes of a triplet of cc_data have come: the triplet that they make with a third byte 00. It comes
-    /// behind the second byte.
+    /// after the second byte.
     Half(Triplet),
-    /// A triplet of cc_data is whole. It comes behind its third byte.
+    /// A triplet of cc_data is whole. It follows its third byte.
     Triplet(Triplet),
     /// The packet ends, with the byte that makes its sum 0.
     End,

@@ -40,7 +40,7 @@ pub fn section_len(sections: &[u8]) -> usize
     2 + rest_len(*id, *second)
 }
 
-// The number of bytes behind the first two of a section.
+// The number of bytes after the first two of a section.
 pub(crate) fn rest_len(id: u8, second: u8) -> usize
     ensures { result ≡ section_rest id second }
 {
@@ -62,7 +62,7 @@ pub const CC_DATA: u8 = 0x72;
 // The id of a section of service information; every section of another id has its length in its second byte.
 pub(crate) const SERVICE_INFORMATION: u8 = 0x73;
 
-// The ids that are kept for the future: the second byte of their sections says how many come behind it.
+// The ids that are kept for the future: the second byte of their sections says how many follow it.
 pub(crate) const FIRST_FUTURE: u8 = 0x75;
 
 pub(crate) const LAST_FUTURE: u8 = 0xEF;

@@ -20,7 +20,7 @@ pub struct WholePacket<'a> {
     pub flags: u8,
     /// The packet's number.
     pub counter: u16,
-    /// The bytes of the sections, one section behind another.
+    /// The bytes of the sections, one section after another.
     pub sections: &'a [u8],
 }
 
@@ -79,7 +79,7 @@ fn are_sections(bytes: &[u8]) -> bool
     rest.is_empty()
 }
 
-/// The first section of these bytes, and the bytes behind it. `None` where they begin with no whole section (SMPTE ST 334-2).
+/// The first section of these bytes, and the bytes after it. `None` where they begin with no whole section (SMPTE ST 334-2).
 pub fn split_section(bytes: &[u8]) -> Option<(&[u8], &[u8])>
     ensures section { IfSome result (λ parts. IsSection parts.0.now) }
     ensures whole { IfSome result (λ parts. bytes.now ≡ parts.0.now ++ parts.1.now) }
@@ -105,7 +105,7 @@ fn is_section_id(id: u8) -> bool
     )
 }
 
-/// The bytes of a section's triplets: those behind the count of a cc_data section, and none of another section
+/// The bytes of a section's triplets: those after the count of a cc_data section, and none of another section
 /// (SMPTE ST 334-2, ccdata_section).
 pub fn triplet_bytes(section: &[u8]) -> &[u8]
     ensures bytes { result.now ≡ section_triplet_bytes section.now }

@@ -17,15 +17,15 @@ use cc_base::{Step, Why};
 pub(crate) enum Within {
     /// The id of a section.
     Id,
-    /// The byte behind this id.
+    /// The byte after this id.
     Count { id: u8 },
-    /// One of so many bytes that are left of the section, which carries no triplets.
+    /// One of this many bytes that are left of the section, which carries no triplets.
     Body { left: usize },
-    /// One of so many bytes that are left of a section of cc_data, behind those of the open triplet.
+    /// One of this many bytes that are left of a section of cc_data, after those of the open triplet.
     Triplet { left: usize, triplet: OpenTriplet },
 }
 
-// Whether a section with this id fits into the bytes that are left, with more sections behind it.
+// Whether a section with this id fits into the bytes that are left, with more sections after it.
 fn does_id_fit(left: u8, id: u8) -> bool
     ensures { result ≡ id_fits left id }
 {
@@ -37,7 +37,7 @@ fn does_id_fit(left: u8, id: u8) -> bool
     }
 }
 
-// Whether a section that has so many bytes as its second byte says fits into the bytes that are left, from this one on.
+// Whether a section that has as many bytes as its second byte says fits into the bytes that are left, from this one on.
 fn does_count_fit(left: u8, id: u8, count: u8) -> bool
     ensures { result ≡ count_fits left id count }
 {
@@ -53,7 +53,7 @@ fn unless_ended(left: usize, next: Within) -> Within
     if left == 0 { Within::Id } else { next }
 }
 
-// What comes next behind the first two bytes of a section with this id.
+// What comes next after the first two bytes of a section with this id.
 fn body(id: u8, left: usize) -> Within
     ensures { result
         ≡ (if id == 0x72 then within.Triplet left open_triplet.Empty else within.Body left) }
@@ -67,7 +67,7 @@ fn body(id: u8, left: usize) -> Within
     }
 }
 
-/// Judges a byte of the sections, of which so many are left with it, and says what comes next where it isn't refused.
+/// Judges a byte of the sections, of which this many are left with it, and says what comes next where it isn't refused.
 pub(crate) fn read_section_byte(within: Within, left: u8, item: u8) -> (Step<CdpPart>, Within)
     ensures says { (section triplet : List ℕ) → within ≡ next_of_section section triplet
         → result.0 ≡ judge_section left section triplet item }

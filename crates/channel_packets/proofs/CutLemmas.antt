@@ -23,7 +23,7 @@ filter-passes {X} test (x ∷ xs) =
       | false ↦ λ is. rw is (filter-passes test xs)
     ] in cases (test x) refl
 
--- a triplet that goes on with a packet starts none
+-- a triplet that continues a packet starts none
 kinds_differ : (valid : Bool) (kind : ℕ) → (valid && (kind == 2)) ≡ true → (valid && (kind == 3)) ≡ false
 kinds_differ true kind is = grind (arith, nat_tests)
 kinds_differ false kind is = refl
@@ -31,7 +31,7 @@ kinds_differ false kind is = refl
 pub starts-continuing : (triplet : Triplet) → continues_packet triplet ≡ true → starts triplet ≡ false
 starts-continuing triplet is = kinds_differ triplet.valid triplet.kind is
 
--- triplets behind the last start, and the stretches
+-- triplets after the last start, and the stretches
 pub record Cut : Type 0 where
   pub strays : List Triplet
   pub stretches : List TripletStretch

@@ -1,4 +1,4 @@
--- Laws of channel packets: of packets behind others, and of what is written.
+-- Laws of channel packets: of packets after others, and of what is written.
 use Rattle.std.proofs.Common.{◌≡◌, ℕ, ◌+◌, ◌-◌, ◌*◌, ◌/◌, ◌%◌, ◌<◌, ◌≤◌, ◌==◌, ◌&&◌, ◌||◌, not, if◌then◌else◌, Bool, true, false, List, [], ◌∷◌, ◌++◌, length, map, take, refl, ap, sym, ◌∙◌, arith, append_assoc, length-append}
 use Rattle.std.proofs.Math.Seq.{take-append_seam}
 use Rattle.std.proofs.lemmas.Bool.Decides.{nat_tests}
@@ -46,7 +46,7 @@ no_strays (triplet ∷ triplets) (stray ∷ strays) stretches anew spelled all =
           ]
     ] in cases (starts triplet) (continues_packet triplet) refl refl anew spelled
 
--- packets behind packets
+-- packets after packets
 pub packets-append : (packets others : List ChannelPacket) (triplets more : List Triplet) → AreChannelPackets packets triplets
     → AreChannelPackets others more → begins_anew more ≡ true → AreChannelPackets (packets ++ others) (triplets ++ more)
 packets-append packets others triplets more are other anew =
@@ -79,7 +79,7 @@ packets-same packets triplets others same are = record {
   packets_are = are.packets_are;
 }
 
--- what is written of further bytes goes on with a packet
+-- what is written of further bytes continues with a packet
 written_continues : (bytes : List ℕ) → list_all continues_packet (bytes_written bytes) ≡ true
 written_continues [] = refl
 written_continues (first ∷ []) = refl

@@ -48,7 +48,7 @@ after-starting front triplet is =
     let more : Open = record { last = front.last; left = front.left - 2 } in
     ap (λ (t : Bool). if t then begun else if continues_packet triplet then more else front) is
 
--- one that goes on with a packet
+-- one that continues a packet
 judge-continuing : (front : Open) (triplet : Triplet) → continues_packet triplet ≡ true
     → judge_triplet front triplet ≡ judge_bytes front.left triplet.a triplet.b
 judge-continuing front triplet is =
@@ -99,7 +99,7 @@ parts_from-channel front (triplet ∷ triplets) =
           ∙ ap (λ (b : Bool). parts_from packet_syntax front (if b then triplet ∷ channel_triplets triplets else channel_triplets triplets)) (sym is)
     ] in cases _ refl
 
--- a triplet that goes on with a packet, and others
+-- a triplet that continues a packet, and others
 parts_from-continuing : (front : Open) (triplet : Triplet) (more : List Triplet) → continues_packet triplet ≡ true
     → parts_from packet_syntax front (triplet ∷ more)
     ≡ step_parts (judge_bytes front.left triplet.a triplet.b) ++ parts_from packet_syntax (record { last = front.last; left = front.left - 2 }) more
@@ -117,7 +117,7 @@ two_parts left first second =
     let two : Step PacketPart = Two (part.Byte first (suc (suc left) - 1)) (part.Byte second (suc (suc left) - 2)) in
     ap (λ (t : Bool). if t then Nothing else if suc (suc left) == 1 then one else two) some ∙ ap (λ (t : Bool). if t then one else two) more
 
--- the bytes of triplets that go on with a packet, as many as are left of it
+-- the bytes of triplets that continues a packet, as many as are left of it
 parts_from-more : (last : Option ℕ) (left : ℕ) (more : List Triplet) → list_all continues_packet more ≡ true
     → parts_from packet_syntax (record { last = last; left = left }) more ≡ byte_parts left (take left (bytes_of more))
 parts_from-more last zero [] all = refl

@@ -32,7 +32,7 @@ pub bytes_written-none : (bytes : List ℕ) → length bytes ≡ 0 → bytes_wri
 bytes_written-none [] is = refl
 bytes_written-none (byte ∷ bytes) is = absurd (omega arith)
 
--- all pairs, and what is left behind them
+-- all pairs, and what is left after them
 pub written-ended : (old items : List Triplet) (bytes last : List ℕ) (pairs : List (List ℕ)) (k : ℕ)
     → items ≡ old ++ map pair_written (take k pairs) → k ≡ length pairs
     → pairs ≡ first_chunks 2 (length bytes / 2) bytes → last ≡ drop (length bytes / 2 * 2) bytes

@@ -19,7 +19,7 @@ pub record Open : Type 0 where
 abbrev pub nothing_open : Open
 nothing_open = record { last = None; left = 0 }
 
--- what is made of two more bytes, where so many are left
+-- what is made of two more bytes, where this many are left
 abbrev pub judge_bytes : ℕ → ℕ → ℕ → Step PacketPart
 judge_bytes left first second =
     if left == 0 then Nothing
@@ -34,13 +34,13 @@ judge_triplet front triplet =
     else if continues_packet triplet then judge_bytes front.left triplet.a triplet.b
     else Nothing
 
--- what is open behind one more triplet
+-- what is open after one more triplet
 abbrev pub open_after : Open → Triplet → Open
 open_after front triplet =
     if starts triplet then (record { last = Some (number_of triplet.a); left = size_of triplet.a - 1 })
     else if continues_packet triplet then (record { last = front.last; left = front.left - 2 })
     else front
 
--- how triplets are read: what is made of each, and what is open behind it
+-- how triplets are read: what is made of each, and what is open after it
 abbrev pub packet_syntax : Syntax Open Triplet PacketPart
 packet_syntax = record { start = nothing_open; judge = judge_triplet; after = open_after }

@@ -3,6 +3,6 @@
 use Rattle.std.specs.Prelude.{◌≡◌, ℕ, ◌%◌}
 use Rattle.channel_packets.specs.declared.writer.PacketWriter.{PacketWriter}
 
--- the writer wrote so many packets: the next one has this number, modulo 4
+-- the writer wrote this many packets: the next one has this number, modulo 4
 abbrev pub HasWritten : ℕ → PacketWriter → Type 0
 HasWritten count writer = writer.number ≡ count % 4

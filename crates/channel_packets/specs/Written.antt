@@ -1,15 +1,15 @@
 -- Believed in part: the program's answer stands on some of these definitions.
--- What is written of a channel packet, triplet for triplet (CTA-708-E, section 5): an odd number of bytes stands behind the
+-- What is written of a channel packet, triplet for triplet (CTA-708-E, section 5): an odd number of bytes follows the
 -- header, so an even one is completed by a byte 00.
 use Rattle.std.specs.Prelude.{ℕ, ◌+◌, ◌*◌, ◌/◌, ◌%◌, ◌==◌, if◌then◌else◌, true, List, [], ◌∷◌, ◌++◌, length}
 use Rattle.cc_data.specs.declared.triplet.Triplet.{Triplet}
 use Rattle.channel_packets.specs.ChannelPackets.{ChannelPacket}
 
--- the header of a packet of this number, with so many bytes behind it, odd or even: half of all its bytes, where 64 stands as 0
+-- the header of a packet of this number, with this many bytes after it, odd or even: half of all its bytes, where 64 stands as 0
 abbrev pub header_for : ℕ → ℕ → ℕ
 header_for number size = 64 * number + (size / 2 + 1) % 64
 
--- the triplet of a header and the byte behind it
+-- the triplet of a header and the byte after it
 abbrev pub starting : ℕ → ℕ → Triplet
 starting header byte = record { valid = true; kind = 3; a = header; b = byte }
 

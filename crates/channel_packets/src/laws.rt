@@ -25,7 +25,7 @@ pub fn triplets_have_packets_in_one_way()
         → AreChannelPackets packets triplets → AreChannelPackets packets others }
 {}
 
-/// A packet is to have an odd number of bytes behind its header, 127 at most, and it has no more than these.
+/// A packet is to have an odd number of bytes after its header, 127 at most, and it has no more than these.
 pub fn packets_have_their_sizes()
     ensures size { (header : ℕ) → (size_of header % 2 ≡ 1) × (size_of header ≤ 127) }
     ensures fit { (packets : List ChannelPacket) (triplets : List Triplet)
@@ -33,7 +33,7 @@ pub fn packets_have_their_sizes()
         → All (λ packet. length packet.bytes ≤ size_of packet.header) packets }
 {}
 
-/// Triplets behind others have their packets behind those of the others, where none of them goes on with a packet before one
+/// Triplets after others have their packets after those of the others, where none of them continues a packet before one
 /// starts a packet.
 pub fn packets_are_joined()
     ensures { (packets others : List ChannelPacket) (triplets more : List Triplet)
@@ -56,7 +56,7 @@ pub fn packets_are_read()
         ≡ record { parts = packet_parts None packets; refusal = None } }
 {}
 
-/// What is written is a packet of the given number and bytes, with one byte 00 behind an even number of them, and it is read back
+/// What is written is a packet of the given number and bytes, with one byte 00 after an even number of them, and it is read back
 /// as this packet, whatever follows it.
 pub fn written_is_read_back()
     ensures packet { (number : ℕ) (bytes : List ℕ) (rest : List Triplet)

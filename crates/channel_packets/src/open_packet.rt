@@ -15,7 +15,7 @@ pub(crate) struct OpenPacket {
     pub(crate) left: u8,
 }
 
-// The number of the bytes that a packet has behind this header.
+// The number of the bytes that a packet has after this header.
 fn size(header: u8) -> u8
     ensures { result ≡ size_of header }
 {
@@ -25,7 +25,7 @@ fn size(header: u8) -> u8
     }
 }
 
-// The parts of two more bytes of a packet, where so many are left.
+// The parts of two more bytes of a packet, where this many are left.
 fn bytes(left: u8, first: u8, second: u8) -> Step<PacketPart>
     ensures { result ≡ judge_bytes left first second }
 {

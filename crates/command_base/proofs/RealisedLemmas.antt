@@ -24,7 +24,7 @@ pub of_told : (Q : List ℕ → Type 0) (left : Option (List ℕ)) → ((bytes :
 of_told Q None each = tt
 of_told Q (Some bytes) each = each bytes refl
 
--- what is left of told bytes behind those taken
+-- what is left of told bytes after those taken
 pub taken_rest : (left now : Option (List ℕ)) (input taken : List ℕ) → left ≡ Some input → Consumes left now taken
     → (rest : List ℕ) × (input ≡ taken ++ rest) × (now ≡ Some rest)
 taken_rest left None input taken known consumed = absurd (subst (λ l. Consumes l None taken) known consumed)

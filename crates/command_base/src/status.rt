@@ -37,7 +37,7 @@ pub enum Status {
     NoRoom(u32),
     /// This was found at a frame of the words file.
     Differs(Finding),
-    /// The words file has only so many frames.
+    /// The words file has only this many frames.
     Short(u32),
     /// The cue of this number, counted from 1, is the first of the second list without a placement beside the first list.
     NoRoomBeside(u32),

@@ -167,12 +167,12 @@ const MISFITS: &[(MisfitKind, [u32; 4], &str)] = &[
     ),
 ];
 
-/// The numbers of a run that was Ok, and wrote so many bytes.
+/// The numbers of a run that was Ok, and wrote this many bytes.
 fn wrote(written: u64) -> Report {
     Report { written, ..NOTHING }
 }
 
-/// The text of a line: it, and behind it zeros.
+/// The text of a line: it, and after it zeros.
 fn text_of(line: &str) -> [u8; TEXT] {
     let bytes = line.as_bytes();
     let length = bytes.len().min(TEXT);

@@ -12,7 +12,7 @@ use words_reading::read_words;
 /// Reads a words file at 29.97 frames a second, and puts the words file at 59.94 that it becomes: two frames for each. What one take gave is
 /// judged, and its words put, before the next take.
 ///
-/// Misfit comes at the first frame that can't be converted, or behind which something else would be seen; Malformed at the first offending
+/// Misfit comes at the first frame that can't be converted, or after which something else would be seen; Malformed at the first offending
 /// word, or where the file is cut short. Then the words of the frames before were put.
 pub fn run_convert<M: Source, O: Sink>(alloc: Global, input: &mut M, out: &mut O) -> Status
     ensures { RealisesLeaving ConvertVerdict

@@ -26,7 +26,7 @@ impl Reason for Unfit {
 /// Words on their way through a converter, up to the first misfit.
 #[derive(Drop)]
 pub struct Converting {
-    /// Behind the words so far.
+    /// After the words so far.
     pub converter: Converter,
 }
 

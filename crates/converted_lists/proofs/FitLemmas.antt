@@ -1,4 +1,4 @@
--- The frames of a placed list can be converted, and what is seen behind them stays.
+-- The frames of a placed list can be converted, and what is seen after them stays.
 use Rattle.std.proofs.Common.{◌≡◌, ℕ, zero, suc, ◌+◌, ◌≤◌, Bool, true, false, Option, Some, None, List, [], ◌∷◌, ◌++◌, All, append_assoc, length, length-append, take, refl, sym, ap, ◌∙◌, subst, arith}
 use Rattle.std.specs.Prelude.{if◌then◌else◌, option_to_list}
 use Rattle.std.proofs.lemmas.List.{take-append-le, take_all}
@@ -69,7 +69,7 @@ module _ (rate : Rate) (columns : Columns) (n : ℕ) (is : rate ≡ F2997) (carr
       })
       (frames_convertible (suc frame) k)
 
--- of frames that can all be converted, those in front and the one behind them
+-- of frames that can all be converted, those in front and the one after them
 front_all : (frames more : List Frame) → All IsConvertible (frames ++ more) → All IsConvertible frames
 front_all [] more all = All-nil IsConvertible
 front_all (frame ∷ frames) more all =
@@ -79,7 +79,7 @@ one_of : (frames : List Frame) (frame : Frame) (more : List Frame) → All IsCon
 one_of [] frame more all = All-head IsConvertible frame more all
 one_of (f ∷ frames) frame more all = one_of frames frame more (All-tail IsConvertible f (frames ++ frame ∷ more) all)
 
--- what is seen behind some of them stays
+-- what is seen after some of them stays
 kept_behind : (list : Listing) (placed : Placement) → IsFormed list → IsRuled list → AreServicesPlaced list placed → HasShortDelays list → (front more : List Frame)
     → column_packets list.rate (columns_of list placed) 0 list.frames ≡ front ++ more → All IsConvertible front → KeepsGrids front
 kept_behind list placed formed ruled is short front more whole all =

@@ -16,7 +16,7 @@ pub fn law_of_sound_lanes()
 {}
 
 /// The frames of a placed cue list at 29.97, whose delays have at most 166 tenths, have no misfit: each can be converted, and the same is
-/// seen behind it.
+/// seen after it.
 pub fn law_of_converted_lists()
     ensures { ListsAreFit }
 {}

@@ -26,7 +26,7 @@ pub record HasPlan (list : Listing) : Type 0 where
 abbrev pub MayShow : Listing → List Cue → Cue → ℕ → Type 0
 MayShow list earlier cue frame = HasPlan (list_of list (with_shown frame cue earlier))
 
--- the first such frame from its SHOW on, and at most so many frames after it
+-- the first such frame from its SHOW on, and at most this many frames after it
 pub record IsShow (late : ℕ) (list : Listing) (earlier : List Cue) (cue : Cue) (frame : ℕ) : Type 0 where
   pub from : cue.show ≤ frame
   pub within : frame ≤ cue.show + late
@@ -43,7 +43,7 @@ AreFitted late list earlier [] fitted = fitted ≡ earlier
 AreFitted late list earlier (cue ∷ cues) fitted =
     (frame : ℕ) × IsShow late list earlier cue frame × AreFitted late list (with_shown frame cue earlier) cues fitted
 
--- the list with all of its cues shown so, none more than so many frames late
+-- the list with all of its cues shown so, none more than this many frames late
 pub record IsFitted (late : ℕ) (list fitted : Listing) : Type 0 where
   pub cues : List Cue
   pub are : AreFitted late list [] list.cues cues

@@ -19,7 +19,7 @@ use std::alloc::Global;
 pub const MOST_LATE: u32 = 1_000;
 
 /// Fits a list that keeps the rules: each cue in turn is shown in the first frame, from its SHOW on, in which the list of the cues so
-/// far keeps the rules and has a placement. NoRoom names the first cue for which none of so many frames after its SHOW, 0 to 1,000,
+/// far keeps the rules and has a placement. NoRoom names the first cue for which none of this many frames after its SHOW, 0 to 1,000,
 /// is such a one.
 ///
 /// A line 21 cue loads where the former cue of its channel is shown, if that is later than its LOAD. Where a pop-on cue takes
@@ -80,7 +80,7 @@ fn with_cues(alloc: Global, list: &CueList, cues: Vec<Cue>) -> Result<CueList, P
     }
 }
 
-/// The first frame, from its SHOW on, in which a cue may be shown after those so far; None where that is more than so many frames late.
+/// The first frame, from its SHOW on, in which a cue may be shown after those so far; None where that is more than this many frames late.
 fn first_show(
     alloc: Global,
     list: &CueList,

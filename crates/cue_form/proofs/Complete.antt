@@ -270,7 +270,7 @@ coloured_last [] run colours is = ap (λ (c : Option PenColors). record run { co
 coloured_last (first ∷ []) run colours is = ap (λ (c : Option PenColors). first ∷ (record run { colors = c } ∷ [])) (sym is)
 coloured_last (first ∷ (second ∷ done)) run colours is = ap (λ (rs : List Run). first ∷ rs) (coloured_last (second ∷ done) run colours is)
 
--- the list with so many runs of its last cue
+-- the list with this many runs of its last cue
 abbrev with_runs : Head → List Share → List Cue → Cue → List Run → Begun
 with_runs head shares earlier cue runs = begun_of (Some head) shares earlier (Some (record cue { runs = runs }))
 

@@ -16,7 +16,7 @@ pub field_from_get : (r : Record) (place : ℕ) (got : Option (Bor (List ℕ))) 
 field_from_get r place None none at empty = empty ∙ (ap (λ o. unwrap_or o []) at ∙ unwrap_or-field_at r place)
 field_from_get r place (Some f) none at empty = ap (λ o. unwrap_or o []) at ∙ unwrap_or-field_at r place
 
--- the fields from a place on, so many
+-- the fields from a place on, this many
 abbrev pub listed : ℕ → ℕ → Record → Record
 listed zero from r = []
 listed (suc n) from r = field r from ∷ listed n (suc from) r

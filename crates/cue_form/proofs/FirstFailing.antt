@@ -46,7 +46,7 @@ module _ {A : Type 0} (Holds : A → Type 0) where
   abbrev pub first_here : (x : A) (xs : List A) → (Holds x → ⊥) → IsFirstFailing Holds (x ∷ xs) x
   first_here x xs fails = record { before = []; after = xs; split = refl; all = tt; fails = fails }
 
-  -- so many stand before it
+  -- this many stand before it
   pub same_before : (xs : List A) (x y : A) (a : IsFirstFailing Holds xs x) (b : IsFirstFailing Holds xs y) → length a.before ≡ length b.before
   same_before xs x y a b =
       let whole : length (a.before ++ x ∷ a.after) ≡ length (b.before ++ y ∷ b.after) = ap length (sym a.split ∙ b.split) in

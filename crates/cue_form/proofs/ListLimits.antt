@@ -1,4 +1,4 @@
--- What is due for the records of a list: no limit but those of frames and cues, and never want of memory.
+-- What is due for the records of a list: no limit but those of frames and cues, and never out of memory.
 use Rattle.std.proofs.Common.{◌≡◌, ℕ, ◌+◌, ◌&&◌, Bool, true, false, List, [], ◌∷◌, Option, Some, None, Result, Ok, Err, refl, subst}
 use Rattle.std.specs.Prelude.{⊤}
 use Rattle.std.specs.declared.alloc.AllocError.{AllocError}
@@ -26,7 +26,7 @@ IsOfRecords limit.Frames = ⊤
 IsOfRecords limit.Cues = ⊤
 IsOfRecords _ = ⊥
 
--- an offence passes no other limit, and is never want of memory
+-- an offence passes no other limit, and is never out of memory
 abbrev OffenceLimits : Offence → Type 0
 OffenceLimits (offence.At place why) = ⊤
 OffenceLimits (offence.Limit which) = IsOfRecords which
@@ -134,6 +134,6 @@ from_limits b number (r ∷ rs) = on_limits_of number (next b r) (λ more. read_
 pub limit_of_records : (bytes : List ℕ) (which : LimitOf) → read_list bytes ≡ Err (fault.Limit which) → IsOfRecords which
 limit_of_records bytes which is = subst ListLimits is (from_limits nothing 1 (records_of bytes))
 
--- want of memory is never due for these bytes
+-- 'out of memory' is never due for these bytes
 pub no_want_of_memory : (bytes : List ℕ) (error : AllocError) → read_list bytes ≡ Err (fault.Memory error) → ⊥
 no_want_of_memory bytes error is = subst ListLimits is (from_limits nothing 1 (records_of bytes))

@@ -42,7 +42,7 @@ no_start : (cfg : Config) (p : Read) → next_record cfg st.StartRecord [] [] []
 unfolding next_record
 no_start cfg p h = cc
 
--- so many turns are enough for the records of these bytes
+-- this many turns are enough for the records of these bytes
 abbrev pub Enough : ℕ → State → List ℕ → Type 0
 Enough n s xs = (length xs < n) ⊎ ((s ≡ st.StartRecord) × (xs ≡ []))
 

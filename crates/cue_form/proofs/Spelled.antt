@@ -59,7 +59,7 @@ cue_record-coloured (kind.Paint channel) cue colours = refl
 cue_record-coloured (kind.Roll channel rows) cue colours = refl
 cue_record-coloured (kind.Win window) cue colours = refl
 
--- a record behind the others of a cue
+-- a record after the others of a cue
 behind_runs : (first : Record) (own runs : List Record) (r : Record) → first ∷ (own ++ (runs ++ r ∷ [])) ≡ (first ∷ (own ++ runs)) ++ r ∷ []
 behind_runs first own runs r = ap (λ (rs : List Record). first ∷ rs) (sym (append_assoc own runs (r ∷ [])))
 

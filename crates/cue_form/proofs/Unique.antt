@@ -65,7 +65,7 @@ lacking : (b : Begun) (head : Option Head) (number : ℕ) → awaits_run b.last 
 lacking b None number awaits = refl
 lacking b (Some head) number awaits = rw awaits refl
 
--- the records before, and what is read behind them
+-- the records before, and what is read after them
 after_begun : (rest : List Record) (b : Begun) → IsBegun b
     → spelled_list (begun_records b ++ rest) ≡ read_from b (length (begun_records b) + 1) rest
 after_begun rest b begins =

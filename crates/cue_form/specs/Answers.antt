@@ -8,7 +8,7 @@ use Rattle.cue_form.specs.declared.fault.CueFault.TheVariants as fault
 use Rattle.cue_form.specs.declared.offence.Offence.{Offence}
 use Rattle.cue_form.specs.declared.offence.Offence.TheVariants as offence
 
--- the offence that is due; want of memory may come in its place
+-- the offence that is due; 'out of memory' may be answered in its place
 abbrev pub AnswersOffence : {A : Type 0} → Result A Offence → Offence → Type 0
 AnswersOffence due (offence.Memory error) = ⊤
 AnswersOffence due (offence.Limit which) = due ≡ Err (offence.Limit which)
@@ -24,7 +24,7 @@ abbrev pub GivesBegun : {A : Type 0} → Result Begun Offence → Result A Offen
 GivesBegun due (Ok _) new = due ≡ Ok new
 GivesBegun due (Err offence) new = AnswersOffence due offence
 
--- the cue list that is due, or the fault; want of memory may come in their place
+-- the cue list that is due, or the fault; 'out of memory' may be answered in their place
 abbrev pub Answers : Result Listing CueFault → Result Listing CueFault → Type 0
 Answers due (Ok list) = due ≡ Ok list
 Answers due (Err (fault.Memory error)) = ⊤

@@ -1,6 +1,6 @@
 -- Between crates: the program's answer stands on none of these definitions.
 -- What is judged of each record, in the order in which it is judged: what may stand there, then the number of its fields,
--- then its fields from the left. Each judgement has the offence that comes where it isn't good.
+-- then its fields from the left. Each judgement has the offence that comes if it isn't good.
 use Rattle.std.specs.Prelude.{ℕ, ◌+◌, ◌-◌, ◌==◌, Bool, false, not, ◌&&◌, nat_lt, nat_le, List, [], ◌∷◌, length, chars, Option, Some, None, is_some}
 use Rattle.std.specs.List.{list_any, list_all}
 use Rattle.std.specs.Str.{is_utf8}

@@ -1,5 +1,5 @@
 -- Believed in part: the program's answer stands on some of these definitions.
--- How a cue list is written: its records as CSV (RFC 4180, as the crate csv writes it), each with a line feed behind it, the
+-- How a cue list is written: its records as CSV (RFC 4180, as the crate csv writes it), each with a line feed after it, the
 -- shares in ascending order of their services.
 use Rattle.std.specs.Prelude.{◌≡◌, ℕ, true, false, List, [], ◌∷◌, ◌++◌, flat_map, option_map, option_to_list}
 use Rattle.csv.specs.Writing.{default_writer, fields_written, has_written, row_text, with_flexible, writer_pending, writer_setup, writer_under}

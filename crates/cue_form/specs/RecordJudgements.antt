@@ -1,5 +1,5 @@
 -- Between crates: the program's answer stands on none of these definitions.
--- What is judged of a record, in the order in which it is judged: each judgement has the offence that comes where it isn't
+-- What is judged of a record, in the order in which it is judged: each judgement has the offence that comes if it isn't
 -- good.
 use Rattle.std.specs.Prelude.{ℕ, ◌+◌, ◌==◌, Bool, nat_lt, if◌then◌else◌, List, [], ◌∷◌, length, Option, Some, None, is_some, unwrap_or, Result, Ok, Err}
 use Rattle.cc_base.specs.declared.why.Why.{Why}

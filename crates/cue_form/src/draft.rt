@@ -305,7 +305,7 @@ fn with_last(mut earlier: Vec<Cue>, last: Option<Cue>) -> Result<Vec<Cue>, Alloc
     Ok(earlier)
 }
 
-/// A share, after these, which may take so many bytes of a frame together with it.
+/// A share, after these, which may take this many bytes of a frame together with it.
 fn read_share(shares: &[Share], room: u32, row: &ByteRecord) -> Result<Share, Offence>
     requires { room ≤ 35 }
     ensures { result ≡ share_record_of room shares.now (fields_of row.now) }
@@ -338,7 +338,7 @@ fn has_share(shares: &[Share], service: u8) -> bool
     shares.iter().any(|share| share.service == service)
 }
 
-/// Whether a share of so many bytes fits in the room together with these shares, each with the header of its block.
+/// Whether a share of this many bytes fits in the room together with these shares, each with the header of its block.
 fn fits(shares: &[Share], bytes: u8, room: u32) -> bool
     requires { bytes ≤ 31 }
     ensures { result ≡ nat_le (shares_taken shares.now + (bytes + 1)) room }

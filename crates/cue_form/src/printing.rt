@@ -14,9 +14,9 @@ use cue_types::{Cue, CueList, Head, Kind, Run, Share, Version};
 use dtvcc_codes::WinAttr;
 use std::alloc::{AllocError, Global};
 
-/// Writes a cue list as CSV (RFC 4180): a record a line, each with a line feed behind it, a field in quotes where it has a
+/// Writes a cue list as CSV (RFC 4180): a record a line, each with a line feed after it, a field in quotes where it has a
 /// comma, a quote or the end of a line. The first record says version 2, the shares stand in ascending order of their
-/// services, a window's own attributes directly behind its record, and a run's own colours directly behind its.
+/// services, a window's own attributes directly after its record, and a run's own colours directly after its.
 pub fn print(alloc: Global, list: &CueList) -> Result<Vec<u8>, AllocError>
     ensures bytes { IfOk result (λ bytes. bytes.items ≡ list_bytes list.now) }
 
@@ -74,7 +74,7 @@ fn write_shares(
     Ok(())
 }
 
-/// Writes cues, each with its window's attributes and its runs behind it.
+/// Writes cues, each with its window's attributes and its runs after it.
 fn write_cues(alloc: Global, writer: &mut Writer<Vec<u8>>, cues: &[Cue]) -> Result<(), AllocError>
     requires { IsBetweenRecords writer.old }
     ensures { OnOk result (Wrote vec_items writer.old writer.new (flat_map cue_records cues.now)) }
@@ -112,7 +112,7 @@ fn own_attributes(kind: Kind) -> Option<WinAttr>
     }
 }
 
-/// Writes runs, each with the colours of its own behind it, where it has them.
+/// Writes runs, each with the colours of its own after it, where it has them.
 fn write_runs(alloc: Global, writer: &mut Writer<Vec<u8>>, runs: &[Run]) -> Result<(), AllocError>
     requires { IsBetweenRecords writer.old }
     ensures { OnOk result (Wrote vec_items writer.old writer.new (flat_map run_records runs.now)) }

@@ -17,7 +17,7 @@ use std::alloc::{AllocError, Global};
 ///
 /// Records are taken one by one, none is kept, and the first fault ends the reading. `Malformed` has the record's number
 /// among the records that CSV finds (blank lines are none), the field's number, both from 1, and the reason; `Limit` comes
-/// where the list has more than 1,000,000 frames or 20,000 cues. Want of memory may come at any record, in place of what is due; so is
+/// where the list has more than 1,000,000 frames or 20,000 cues. Out of memory may come at any record, in place of what is due; so is
 /// any error of the CSV reader answered, which over bytes in memory has no other.
 pub fn parse(alloc: Global, bytes: &[u8]) -> Result<CueList, CueFault>
     requires { length bytes.now ≤ whole_limit }

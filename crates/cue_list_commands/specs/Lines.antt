@@ -15,7 +15,7 @@ pair_text (Some pair) =
 abbrev pub pair_line : Option Pair → Option Pair → List ℕ
 pair_line one two = pair_text one ++ codes " " ++ pair_text two ++ codes "\n"
 
--- the lines of so many frames, from a frame on
+-- the lines of this many frames, from a frame on
 abbrev pub pair_lines : Columns → ℕ → ℕ → List ℕ
 pair_lines columns frame zero = []
 pair_lines columns frame (suc n) = pair_line (columns frame).one (columns frame).two ++ pair_lines columns (suc frame) n

@@ -67,7 +67,7 @@ pub record IsSoundPairs (made : PlacedList) : Type 0 where
   pub doubled : AreDoubledIn made.list.frames (columns_of made.list made.placed)
   pub shown : ColumnsShow (list_told made.list) (list_grids made.list) made.list.frames (columns_of made.list made.placed)
 
--- what holds of the words that `build` puts: their frames are sound, no service is told more than its share, a receiver that was
+-- what holds of the words that `build` puts: their frames are sound, no service gets more than its share, a receiver that was
 -- reset before the first frame shows the list, and the delay of each window cue is sent
 pub record IsSoundWords (made : PlacedList) : Type 0 where
   pub frames : IsSoundFrames made.list.rate made.list.frames (columns_of made.list made.placed)

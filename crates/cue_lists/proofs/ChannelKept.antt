@@ -89,7 +89,7 @@ show_fits : (hide : Option ℕ) (show step frames : ℕ) → MatchOption hide (s
 show_fits None show step frames ended none = le_fails frames show ended
 show_fits (Some hide) show step frames ended none = cc
 
--- a HIDE that isn't between, where it is far enough behind or not above
+-- a HIDE that isn't between, where it is far enough after or not above
 apart_fails : (hide show reach : ℕ) → (hide < show → hide + reach ≤ show) → (nat_lt hide show && nat_lt show (hide + reach)) ≡ false
 apart_fails hide show reach apart = guarded (nat_lt hide show) (nat_lt show (hide + reach)) (λ above. lt_fails show (hide + reach) (apart (ltb-true hide show above)))
 
@@ -108,7 +108,7 @@ second_passes : (a b : Bool) → (a && b) ≡ true → b ≡ true
 second_passes true b passes = passes
 second_passes false b passes = cc
 
--- a cue on a channel of which the sentences hold, behind these cues
+-- a cue on a channel of which the sentences hold, after these cues
 module _ (list : Listing) (earlier : List Cue) (cue : Cue) (line21 : is_line21 cue.kind ≡ true) (sound : IsSound (slot_step list.rate) list.frames cue)
     (after : (former : Cue) → former_cue cue earlier ≡ Some former → ComesAfter (slot_step list.rate) former cue)
     (channel : Chan) (on_it : is_on channel cue.kind ≡ true) (slots : IsOnSlots (cadence_of list.rate channel) cue) where

@@ -43,7 +43,7 @@ lane_cases (kind.Paint channel) P line21 window = line21 channel (same_channel_r
 lane_cases (kind.Roll channel rows) P line21 window = line21 channel (same_channel_refl channel)
 lane_cases (kind.Win w) P line21 window = window w.service (equal_itself w.service)
 
--- the former cue of a cue that is behind the newest on its channel
+-- the former cue of a cue that is after the newest on its channel
 after_newest : (step : ℕ) (cues : List Cue) (cue former : Cue) → IsBehind step cues cue → newest cues ≡ Some former → ComesAfter step former cue
 after_newest step [] cue former behind is = cc
 after_newest step (first ∷ cues) cue former behind is =

@@ -48,7 +48,7 @@ nearest_same : (p q : Cue → Bool) (cues : List Cue) → AllByRecursion (λ (cu
 nearest_same p q [] same = refl
 nearest_same p q (cue ∷ cues) same = rw (same.0, nearest_same p q cues same.1) refl
 
--- behind each cue that passes the first test and fails the second, the second fails for all that pass the first
+-- after each cue that passes the first test and fails the second, the second fails for all that pass the first
 abbrev Faded : (Cue → Bool) → (Cue → Bool) → List Cue → Type 0
 Faded w k [] = Unit {0}
 Faded w k (cue ∷ cues) = (w cue ≡ true → k cue ≡ false → AllByRecursion (λ (e : Cue). w e ≡ true → k e ≡ false) cues) × Faded w k cues
@@ -195,7 +195,7 @@ if_some : (P : ℕ → Type 0) (o : Option ℕ) (hide : ℕ) → IfSome o P → 
 if_some P None hide fact is = cc
 if_some P (Some h) hide fact is = let same : h ≡ hide = cc in subst P same fact
 
--- a cue in a window, behind cues that keep the rules, loads when those in its window are hidden
+-- a cue in a window, after cues that keep the rules, loads when those in its window are hidden
 module _ (list : Listing) (service id : ℕ) (cue : Cue) (earlier : List Cue) (formed : IsCueFormed cue) (on : uses_window service id cue.kind ≡ true)
     (keeps : KeepsRules list earlier cue) where
   its_hide : IsSome cue.hide
@@ -324,7 +324,7 @@ none_within None show at frames ended after = tt
 none_within (Some start) show at frames ended after =
     each_of (λ (frame : ℕ). at < frame) (λ (frame : ℕ). start < frame → show ≤ frame) frames (λ frame above later. omega arith) after
 
--- a cue that was hidden up to the LOAD of another, behind it in the order of LOADs
+-- a cue that was hidden up to the LOAD of another, after it in the order of LOADs
 pub record IsOver (rate : Rate) (cue e : Cue) : Type 0 where
   pub loaded : e.load ≤ cue.load
   pub shown : e.show ≤ cue.load

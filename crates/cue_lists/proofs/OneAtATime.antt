@@ -71,7 +71,7 @@ if_some : (P : ℕ → Type 0) (o : Option ℕ) (hide : ℕ) → IfSome o P → 
 if_some P None hide fact is = cc
 if_some P (Some h) hide fact is = let same : h ≡ hide = cc in subst P same fact
 
--- where a cue is shown in its window, none that stands behind it is
+-- where a cue is shown in its window, none that follows it is
 not_both : (list : Listing) (service id frame : ℕ) (cue other : Cue) → IsCueFormed cue → IsSoundWindow list service other
     → KeepsClear list.rate cue other → shows_in service id frame cue ≡ true → shows_in service id frame other ≡ false
 not_both list service id frame cue other formed sound clear shows =

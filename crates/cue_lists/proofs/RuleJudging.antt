@@ -45,7 +45,7 @@ slice_get-append [] ys i within = absurd (omega arith)
 slice_get-append (x ∷ xs) ys zero within = refl
 slice_get-append (x ∷ xs) ys (suc i) within = slice_get-append xs ys i (omega arith)
 
--- the element behind a list
+-- the element after a list
 slice_get_last : (xs : List Cue) (y : Cue) → slice_get (xs ++ y ∷ []) (length xs) ≡ Some y
 slice_get_last [] y = refl
 slice_get_last (x ∷ xs) y = slice_get_last xs y
@@ -122,7 +122,7 @@ unfolding verdicts
 order_judged list earlier cue number former broken fault en ef eo is =
     rw (length-reverse, ← en, ← former_is earlier cue number former en ef, ← eo, is) refl
 
--- a cue that keeps it and breaks no rule, or a rule behind it: the answer of the verdicts is that of the cue
+-- a cue that keeps it and breaks no rule, or a rule after it: the answer of the verdicts is that of the cue
 pub judged : (list : Listing) (earlier : List Cue) (cue : Cue) (number : Option ℕ) (former : Option Cue)
     (v c u b d s p t : Option Against) (r : Result (Unit {0}) RuleFault)
     → number ≡ former_number cue (reverse earlier)

@@ -52,7 +52,7 @@ all_kept (alternative ∷ rest) none = by_test alternative.broken (all_kept rest
     by_test true others e = cc
     by_test false others e = (refl, others e)
 
--- where there is no fault, the rule is kept, and so are those behind it
+-- where there is no fault, the rule is kept, and so are those after it
 no_fault : (why : Why) (against : Option Against) (n : ℕ) (f : Option ℕ) (later : Option RuleFault)
     → fault_or why against n f later ≡ None → (against ≡ None) × (later ≡ None)
 no_fault why None n f later e = (refl, e)
@@ -130,7 +130,7 @@ not_le a b fails = elim (leb_tells a b) [ inl t ↦ cc | inr t ↦ t.1 ]
 pub not_lt : (a b : ℕ) → nat_lt a b ≡ false → b ≤ a
 not_lt a b fails = elim (leb_tells (suc a) b) [ inl t ↦ cc | inr t ↦ omega (arith, t.1) ]
 
--- what holds of a cue that keeps the rules, behind these cues
+-- what holds of a cue that keeps the rules, after these cues
 module _ (list : Listing) (earlier : List Cue) (cue : Cue) (keeps : KeepsRules list earlier cue) where
   -- LOAD is below SHOW
   pub load_below_show : cue.load < cue.show
@@ -159,13 +159,13 @@ module _ (list : Listing) (earlier : List Cue) (cue : Cue) (keeps : KeepsRules l
       (second_fails (is_line21 cue.kind) (hide_is former.hide (λ h. nat_lt cue.show h))
       (former_fails (former_cue cue earlier) (shows_before_it_hides cue) former keeps.overlap.1.0 is) line21) at)
 
-  -- a pop-on cue: HIDE is two steps behind SHOW or later
+  -- a pop-on cue: HIDE is two steps after SHOW or later
   pub hide_not_next : (hide : ℕ) → is_pop cue.kind ≡ true → cue.hide ≡ Some hide → cue.show + 2 * slot_step list.rate ≤ hide
   hide_not_next hide pop is =
       not_lt hide (cue.show + 2 * slot_step list.rate) (hide_fails (λ h. nat_lt h (cue.show + 2 * slot_step list.rate)) cue.hide hide
       (second_fails (is_pop cue.kind) (hide_is cue.hide (λ h. nat_lt h (cue.show + 2 * slot_step list.rate))) keeps.clash.0 pop) is)
 
-  -- a pop-on cue: SHOW is the former cue's HIDE, or two steps behind it or later
+  -- a pop-on cue: SHOW is the former cue's HIDE, or two steps after it or later
   pub show_not_next : (former : Cue) (hide : ℕ) → is_pop cue.kind ≡ true → former_cue cue earlier ≡ Some former
       → former.hide ≡ Some hide → hide < cue.show → hide + 2 * slot_step list.rate ≤ cue.show
   show_not_next former hide pop is at above =

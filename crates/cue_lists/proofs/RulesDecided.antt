@@ -8,7 +8,7 @@ use Rattle.cue_types.specs.declared.cue.Cue.{Cue}
 use Rattle.cue_lists.specs.declared.rules.RuleFault.{RuleFault}
 use Rattle.cue_lists.proofs.RulesSaid.{faultless_ruled, faulty_has}
 
--- the newest of the cues so far is the first of those behind the others
+-- the newest of the cues so far is the first of those after the others
 newest_behind : (earlier later : List Cue) (cue : Cue) → reverse (cue ∷ earlier) ++ later ≡ reverse earlier ++ cue ∷ later
 newest_behind earlier later cue = rw (reverse-append (cue ∷ []) earlier, append_assoc) refl
 

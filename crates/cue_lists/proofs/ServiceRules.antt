@@ -265,7 +265,7 @@ first_is : (P : Cue → Type 0) (cues : List Cue) (former : Cue) → AllByRecurs
 first_is P [] former all is = cc
 first_is P (cue ∷ cues) former all is = let same : cue ≡ former = cc in subst P same all.0
 
--- a cue of a service of which the sentences hold, behind these cues
+-- a cue of a service of which the sentences hold, after these cues
 module _ (list : Listing) (service : ℕ) (earlier : List Cue) (cue : Cue) (on : is_of_service service cue.kind ≡ true)
     (hides : AllByRecursion HidesWindow earlier) (sound : IsSoundWindow list service cue)
     (clear : AllByRecursion (λ (former : Cue). KeepsClear list.rate former cue) (cues_of_service service earlier)) where

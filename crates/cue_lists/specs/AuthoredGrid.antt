@@ -50,7 +50,7 @@ abbrev pub chain_of : Cue → List Cue → List Cue
 chain_of cue [] = cue ∷ []
 chain_of cue (former ∷ earlier) = cue ∷ (if continues cue former then chain_of former earlier else [])
 
--- roll-up captions of so many rows: the cells of the cue j places before the last one of the chain, if there is one,
+-- roll-up captions of this many rows: the cells of the cue j places before the last one of the chain, if there is one,
 -- stand j rows above the base row, for each j below that number
 abbrev pub chain_rows : ℕ → ℕ → List Cue → Picture
 chain_rows rows base chain row column =

@@ -64,7 +64,7 @@ CueIsReadApart = (head : Head) (shares : List Share) (earlier : List Cue) (last 
     → read_from (begun_with head shares earlier last) number records
     ≡ on_ok (read_apart head number records) (λ own. Ok (list_of head shares ((earlier ++ option_to_list last) ++ own.cues)))
 
--- a cue that the records give, or their fault, which is no limit; want of memory may come in its place
+-- a cue that the records give, or their fault, which is no limit; 'out of memory' may be answered in its place
 abbrev pub AnswersCue : Head → Result Listing CueFault → Result Cue CueFault → Type 0
 AnswersCue head due (Ok cue) = (due ≡ Ok (list_of head [] (cue ∷ []))) × IsCueFormed cue × AreOfVersion head.version (cue ∷ [])
 AnswersCue head due (Err (fault.Memory error)) = ⊤

@@ -11,7 +11,7 @@ use Rattle.cue_types.specs.declared.head.Head.{Head}
 use Rattle.cue_records.specs.CueApart.{AreOfCue, begun_with, read_apart}
 use Rattle.cue_records.specs.declared.cue_reader.CueReader.{CueReader}
 
--- the records of a cue begin this list, which has the head and the cue alone; it goes on with what follows
+-- the records of a cue begin this list, which has the head and the cue alone; it continues with what follows
 pub record LeadsTo (head : Head) (number : ℕ) (records : List Record) (b : Begun) : Type 0 where
   pub begun : IsBegun b
   pub alone : b ≡ begun_with head [] [] b.last

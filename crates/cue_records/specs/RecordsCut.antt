@@ -19,7 +19,7 @@ pub record HasCut (bytes : List ℕ) (rows : List Record) (reader : RecordReader
   pub is_open : IsOpen begun reader
   pub follows : (rest : List ℕ) → records default_config (bytes ++ rest) ≡ rows ++ records default_config (begun ++ rest)
 
--- a record ended after so many of the bytes, and this is it; or none did
+-- a record ended after this many of the bytes, and this is it; or none did
 abbrev pub Cuts : List ℕ → List Record → List ℕ → Record → Option ℕ → RecordReader → Type 0
 Cuts before rows bytes row None new = HasCut (before ++ bytes) rows new
 Cuts before rows bytes row (Some used) new = (0 < used) × (used ≤ length bytes) × HasCut (before ++ take used bytes) (rows ++ row ∷ []) new

@@ -32,7 +32,7 @@ has_lead run = is_coloured run.pen && nat_lt 0 run.col
 abbrev pub first_column : Run → ℕ
 first_column run = if has_lead run then run.col - 1 else run.col
 
--- the column behind the run's last character
+-- the column after the run's last character
 abbrev pub end_column : Run → ℕ
 end_column run = run.col + length run.text
 

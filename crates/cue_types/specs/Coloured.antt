@@ -1,5 +1,5 @@
 -- Between crates: the program's answer stands on none of these definitions.
--- Colours of a run's own, which are said behind it.
+-- Colours of a run's own, which are said after it.
 use Rattle.std.specs.Prelude.{List, [], ◌∷◌, Some}
 use Rattle.dtvcc_codes.specs.declared.pens.PenColors.{PenColors}
 use Rattle.cue_types.specs.declared.cue.Run.{Run}

@@ -38,7 +38,7 @@ abbrev pub base_row : List Run → ℕ
 base_row [] = 0
 base_row (run ∷ _) = run.row
 
--- the runs of a roll-up cue of so many rows: all on one base row, which has room for its rows
+-- the runs of a roll-up cue of this many rows: all on one base row, which has room for its rows
 pub record IsRolled (rows : ℕ) (runs : List Run) : Type 0 where
   pub number : (2 ≤ rows) × (rows ≤ 4)
   pub one_row : All (λ run. run.row ≡ base_row runs) runs

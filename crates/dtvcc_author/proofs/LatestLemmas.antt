@@ -1,5 +1,5 @@
 -- The caption that was loaded last in each window tells the events of a frame: those loaded before it are hidden by then, and
--- those behind have none yet.
+-- those after have none yet.
 use Rattle.std.proofs.Common.{get_or, min, ◌≡◌, ◌∙◌, ℕ, suc, zero, ◌+◌, ◌<◌, ◌≤◌, ◌⊎◌, inl, inr, ◌==◌, Bool, true, false, ◌&&◌, ◌||◌, not, List, [], ◌∷◌, ◌++◌, Option, Some, None, refl, sym, ap, subst, arith, length, take, drop, cond, if◌then◌else◌}
 use Rattle.std.specs.Prelude.{⊤, IfNone, IfSome, find, option_map, slice_index_or, slice_set}
 use Rattle.std.specs.List.{AllByRecursion, flat_map, list_any}
@@ -80,7 +80,7 @@ abbrev Precedes : Option Caption → List Caption → ℕ → Type 0
 Precedes None cs id = ⊤
 Precedes (Some d) cs id = AllByRecursion (λ (c : Caption). c.id ≡ id → d.hide ≤ c.load) cs
 
--- a caption precedes those behind it
+-- a caption precedes those after it
 follow_precedes : (c : Caption) (cs : List Caption) (id : ℕ) → c.id ≡ id → AllByRecursion (Follows c) cs → Precedes (Some c) cs id
 follow_precedes c [] id is follow = tt
 follow_precedes c (x ∷ xs) id is follow = ((λ same. follow.0.vacated (same ∙ sym is)), follow_precedes c xs id is follow.1)
@@ -103,7 +103,7 @@ elsewhere : (a n p : Bool) → ((a && false) || n) || p ≡ n || p
 elsewhere true n p = refl
 elsewhere false n p = refl
 
--- a test that holds of a caption only from behind its LOAD up to its HIDE
+-- a test that holds of a caption only from after its LOAD up to its HIDE
 module _ (rate : Rate) (frames frame : ℕ) (test : Caption → Bool)
     (timely : (c : Caption) → IsSoundCaption rate frames c → test c ≡ true → (c.load < frame) × (frame ≤ c.hide)) where
   -- it fails for a caption that precedes one loaded before the frame
@@ -141,7 +141,7 @@ module _ (rate : Rate) (frames frame : ℕ) (test : Caption → Bool)
       at false other last rest =
           rw other (elsewhere (test c) (names test cs id) (passes test found) ∙ rest)
 
-  -- those loaded at the frame or behind it have no events yet
+  -- those loaded at the frame or after it have no events yet
   none_yet : (cs : List Caption) (id : ℕ) → AreKept rate frames cs → AllByRecursion (λ (c : Caption). frame ≤ c.load) cs
       → names test cs id ≡ false
   none_yet [] id kept behind = refl
@@ -409,7 +409,7 @@ quiet_events rate frames frame cs latest kept is eight none = record {
     quiet : (id : ℕ) → id < 8 → IsQuiet frame (caption_in latest id)
     quiet id small = quiet_is frame (caption_in latest id) (at id small (passes (has_event_at frame) (caption_in latest id)) refl)
 
--- some captions are passed, all of those behind the frame's beginning not
+-- some captions are passed, all of those after the frame's beginning not
 pub record IsPassing (cs : List Caption) (frame : ℕ) (latest : Latest) : Type 0 where
   pub within : latest.next ≤ length cs
   pub before : AllByRecursion (λ (c : Caption). c.load < frame) (take latest.next cs)
@@ -503,7 +503,7 @@ passing_next cs frame latest c eight passing within is loaded small hidden =
         → slice_index_or (slice_set latest.windows c.id (Some c)) id None ≡ (if c.id == id then Some c else latest_of (take latest.next cs) id)
     window id low = here id low (c.id == id) refl
 
--- those behind a caption are loaded no earlier
+-- those after a caption are loaded no earlier
 loads_behind : (frame : ℕ) (c : Caption) (cs : List Caption) → frame ≤ c.load → AllByRecursion (Follows c) cs
     → AllByRecursion (λ (d : Caption). frame ≤ d.load) cs
 loads_behind frame c [] low follow = tt

@@ -38,7 +38,7 @@ packed_push sizes bytes unit is small =
       small = All-push (λ (size : ℕ). size ≤ 7) sizes (length unit) is.small small;
     }
 
--- a unit stands behind those before it
+-- a unit follows those before it
 pub unit_there : (units : List (List ℕ)) (index : ℕ) → index < length units
     → take (length (get_or units index [])) (drop (bytes_before index units) (concat units)) ≡ get_or units index []
 unit_there [] index within = absurd (omega arith)
@@ -62,7 +62,7 @@ unit_within (unit ∷ units) (suc index) within =
     let rest = unit_within units index (omega arith) in
     omega arith
 
--- behind a unit come as many bytes more
+-- after a unit come as many bytes more
 pub bytes_before_next : (units : List (List ℕ)) (index : ℕ) → index < length units
     → bytes_before (index + 1) units ≡ bytes_before index units + length (get_or units index [])
 bytes_before_next units index within =

@@ -41,7 +41,7 @@ windows_command command test cs =
     then command (windows_byte (λ id. list_any (λ c. test c && (c.id == id)) cs)) ∷ []
     else []
 
--- a delay, and behind it, to be held, what shows the caption's window alone
+-- a delay, and after it, to be held, what shows the caption's window alone
 abbrev pub delay_commands : Option Caption → List Command
 delay_commands None = []
 delay_commands (Some c) = Dly c.tenths ∷ Dsw (windows_byte (λ id. c.id == id)) ∷ []

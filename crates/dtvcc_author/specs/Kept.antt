@@ -21,7 +21,7 @@ pub record IsUncovered (c other : Caption) : Type 0 where
   pub hide : 0 < c.tenths → c.starts < other.hide → c.show ≤ other.hide
   pub starts : 0 < c.tenths → c.starts < other.starts → c.show ≤ other.starts
 
--- a caption and one that stands behind it
+-- a caption and one that follows it
 pub record Follows (former c : Caption) : Type 0 where
   pub in_order : former.load ≤ c.load
   -- where both use one window, the former is hidden before the other is loaded

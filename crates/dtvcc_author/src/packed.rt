@@ -7,7 +7,7 @@ use arrayvec::ArrayVec;
 use std::alloc::{AllocError, Global};
 use std::marker::Model;
 
-/// Units in the order in which they are sent, each seen as its bytes. They are kept as the bytes of all, one unit behind the
+/// Units in the order in which they are sent, each seen as its bytes. They are kept as the bytes of all, one unit after the
 /// other, and the length of each, so that a unit takes one byte more than it has.
 #[derive(Drop)]
 pub struct PackedUnits {
@@ -64,7 +64,7 @@ impl PackedUnits {
         Ok(())
     }
 
-    /// The bytes of all units, one unit behind the other.
+    /// The bytes of all units, one unit after the other.
     pub fn bytes(&self) -> &[u8]
         ensures { result.now ≡ concat self.now }
     {
@@ -88,7 +88,7 @@ impl PackedUnits {
         self.lengths.len()
     }
 
-    /// A unit, whose bytes start behind those of the units before it.
+    /// A unit, whose bytes start after those of the units before it.
     pub fn unit(&self, index: usize, start: usize) -> &[u8]
         requires index { index < length self.now }
         requires start { start ≡ bytes_before index self.now }

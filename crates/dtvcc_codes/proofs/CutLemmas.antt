@@ -35,7 +35,7 @@ filled bytes more are others some size = record {
   spells = whole_is_spelled (bytes ++ more) (All-append IsByte bytes more are others) size;
 }
 
--- so many zeros
+-- this many zeros
 zeros : (n : ℕ) → All IsByte (replicate n 0)
 zeros n = All-replicate IsByte n 0 (omega arith)
 
@@ -83,7 +83,7 @@ pub record IsOpen (front : List ℕ) : Type 0 where
 nothing_is_open : IsOpen []
 nothing_is_open = record { are = All-nil IsByte; few = omega (arith, told_size_empty) }
 
--- a byte behind open bytes: it makes them whole, with just as many as they tell, or they stay open
+-- a byte after open bytes: it makes them whole, with just as many as they tell, or they stay open
 whole_size : (front : List ℕ) (byte : ℕ) → IsOpen front → is_whole (front ++ byte ∷ []) ≡ true → told_size (front ++ byte ∷ []) ≡ length (front ++ byte ∷ [])
 whole_size front byte is whole =
     let few = is.few in
@@ -115,7 +115,7 @@ open_from-is front (byte ∷ bytes) is are =
 pub open_behind-is : (bytes : List ℕ) → All IsByte bytes → IsOpen (open_behind command_syntax bytes)
 open_behind-is bytes are = open_from-is [] bytes nothing_is_open are
 
--- open bytes, and the bytes behind them, are cut into what these complete
+-- open bytes, and the bytes after them, are cut into what these complete
 pub cut_from : (front bytes : List ℕ) → IsOpen front → All IsByte bytes
     → IsCut (parts_from command_syntax front bytes) (front_from open_after front bytes) (front ++ bytes)
 cut_from front [] is are = (append-nil front, unfinished_is front is.are is.few)
@@ -168,7 +168,7 @@ cut_one_way (command ∷ commands) (other ∷ others) rest after bytes (front, m
       cons_is : command ≡ other → commands ≡ others → command ∷ commands ≡ other ∷ others
       cons_is first more_are = cc
 
--- a byte completes a command behind open bytes exactly where they and it spell it
+-- a byte completes a command after open bytes exactly where they and it spell it
 pub completed_is_spelled : (front : List ℕ) (byte : ℕ) (command : Command) → IsOpen front → byte < 256 → completed front byte ≡ Some command
     → Spells command (front ++ byte ∷ [])
 completed_is_spelled front byte command is fits says = by_test (is_whole (front ++ byte ∷ [])) refl says where
@@ -197,7 +197,7 @@ begun_test command bytes more spells some = let few = told_of_front command byte
 more_nones : (m n : ℕ) → n ≡ suc m → (xs : List (Option Command)) → replicate n None ++ xs ≡ None ∷ (replicate m None ++ xs)
 more_nones m n is xs = ap (λ k. replicate {A = Option Command} k None ++ xs) is
 
--- what the rest of a spelling completes, behind its front
+-- what the rest of a spelling completes, after its front
 pub record CompletesAtEnd (command : Command) (front more : List ℕ) : Type 0 where
   pub completions_are : completions front more ≡ replicate (length more - 1) None ++ Some command ∷ []
   pub ends : front_from open_after front more ≡ []

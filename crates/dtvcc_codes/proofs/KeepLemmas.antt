@@ -35,7 +35,7 @@ skipped_says front byte to_skip some is unfinished =
     let known = is_long front byte to_skip some is unfinished in
     rw (known.size, known.says, known.length_is) (grind (arith, nat_tests, known.left))
 
--- and what is kept behind it
+-- and what is kept after it
 pub record IsKeptBehind (front after : List ℕ) (to_skip : ℕ) : Type 0 where
   pub bytes : kept_of front ≡ kept_of after
   pub to_skip_is : to_skip ≡ to_come after

@@ -10,7 +10,7 @@ use Rattle.dtvcc_codes.specs.Reading.{extended_command, said_at, spelled_command
 rest_is : (code : ℕ) (rest : List ℕ) → take (length (code ∷ rest) - 1) rest ≡ rest
 rest_is code rest = take_all (length (code ∷ rest) - 1) rest (omega arith)
 
--- behind EXT1
+-- after EXT1
 pub command_of-extended : (bytes : List ℕ) (command : Command) → 1 ≤ length bytes → get_or bytes 0 0 ≡ 16
     → command ≡ extended_command (take (length bytes - 1) (drop 1 bytes)) → command ≡ spelled_command bytes
 unfolding spelled_command

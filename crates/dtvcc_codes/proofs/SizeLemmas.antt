@@ -217,7 +217,7 @@ extended_size-long (code ∷ count ∷ skipped) long = by_test (is_counted code)
   by_test true is = (code, count, skipped, refl, is)
   by_test false is = absurd (omega (arith, extended_size-row code (count ∷ skipped) is, extended_count-small code))
 
--- such a command behind one more byte
+-- such a command after one more byte
 pub record IsPassedOver (front : List ℕ) (byte : ℕ) : Type 0 where
   pub size : told_size (front ++ byte ∷ []) ≡ told_size front
   pub says : spelled_command (front ++ byte ∷ []) ≡ Skipped

@@ -351,7 +351,7 @@ base_own = (
   ),
 )
 
--- and no row behind EXT1 says them
+-- and no row after EXT1 says them
 HasNoOwnCode : ℕ → List ℕ → Command → Type 0
 HasNoOwnCode code parameters command = own_code command ≡ 0
 

@@ -32,7 +32,7 @@ pub command_of-ext1 : (code : ℕ) (rest : List ℕ) → (code == 16) ≡ true �
 unfolding spelled_command
 command_of-ext1 code rest test = rw test refl
 
--- a code with a row isn't EXT1, and one behind EXT1 isn't counted
+-- a code with a row isn't EXT1, and one after EXT1 isn't counted
 other_than_ext1 : (code : ℕ) (row : Row) → row_at base_codes code ≡ Some row → (code == 16) ≡ false
 other_than_ext1 code row at = isnt_ext1 code (λ is. let none : row_at base_codes code ≡ None = ap (λ c. row_at base_codes c) is ∙ ext1_row in absurd cc)
 

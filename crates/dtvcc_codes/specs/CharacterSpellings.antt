@@ -1,5 +1,5 @@
 -- Believed: the program's answer stands on these definitions.
--- The spelling of a character: by G0 where that has it, else by G1, else by G2 behind EXT1 (CTA-708-E, 7.1).
+-- The spelling of a character: by G0 where that has it, else by G1, else by G2 after EXT1 (CTA-708-E, 7.1).
 use Rattle.std.specs.Prelude.{ℕ, ◌==◌, ◌&&◌, nat_lt, nat_le, if◌then◌else◌, List, [], ◌∷◌, Option, Some, None, find}
 use Rattle.std.specs.Option.{option_map, option_or}
 use Rattle.dtvcc_codes.specs.Characters.{g2_characters}

@@ -1,6 +1,6 @@
 -- Believed: the program's answer stands on these definitions.
 -- The code sets of DTVCC (CTA-708-E, 7.1), as tables: the codes, how many parameter bytes follow each, and what the code says
--- with them. C0, G0, C1 and G1 are the sets of a single byte. The byte 10, EXT1, leads to the extended sets: the byte behind it
+-- with them. C0, G0, C1 and G1 are the sets of a single byte. The byte 10, EXT1, leads to the extended sets: the byte after it
 -- is a code of C2, G2, C3 or G3.
 use Rattle.std.specs.Prelude.{ℕ, ◌-◌, ◌%◌, ◌&&◌, nat_le, Bool, if◌then◌else◌, List, [], ◌∷◌, ◌++◌, Option, Some, None, slice_index}
 use Rattle.dtvcc_codes.specs.declared.commands.Command.{Command}
@@ -16,7 +16,7 @@ ext1 = 0x10
 abbrev pub Meaning : Type 0
 Meaning = ℕ → List ℕ → Command
 
--- a row of a table: its first and last code, the number of parameter bytes behind each, and what they say
+-- a row of a table: its first and last code, the number of parameter bytes after each, and what they say
 pub record Row : Type 0 where
   pub first : ℕ
   pub last : ℕ
@@ -86,7 +86,7 @@ base_codes =
     ++ row 0xA0 0xFF 0 (λ code parameters. Put (Some (g1_of code)))
     ∷ []
 
--- the codes behind EXT1, but for those of C3 that say themselves how many bytes follow
+-- the codes after EXT1, but for those of C3 that say themselves how many bytes follow
 abbrev pub extended_codes : List Row
 extended_codes =
     -- C2
@@ -103,7 +103,7 @@ extended_codes =
     ∷ row 0xA0 0xFF 0 (λ code parameters. Put (Some low_line))
     ∷ []
 
--- a code of C3, 90 to 9F, behind which a byte stands whose low five bits count the bytes that follow it
+-- a code of C3, 90 to 9F, after which a byte stands whose low five bits count the bytes that follow it
 abbrev pub is_counted : ℕ → Bool
 is_counted code = nat_le 0x90 code && nat_le code 0x9F
 

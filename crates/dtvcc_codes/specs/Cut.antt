@@ -1,5 +1,5 @@
 -- Believed: the program's answer stands on these definitions.
--- How the bytes of a service are cut into commands (CTA-708-E, 7.1): into the spellings of commands, one behind another, up to
+-- How the bytes of a service are cut into commands (CTA-708-E, 7.1): into the spellings of commands, one after another, up to
 -- a rest that begins a spelling and isn't whole yet. The cut is of the bytes alone: it knows nothing of delays.
 use Rattle.std.specs.Prelude.{◌≡◌, ℕ, ◌<◌, List, [], ◌∷◌, ◌++◌, length}
 use Rattle.dtvcc_codes.specs.declared.commands.Command.{Command}

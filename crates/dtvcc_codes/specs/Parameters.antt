@@ -1,6 +1,6 @@
 -- Believed: the program's answer stands on these definitions.
 -- The parameters of the commands that have fields of bits (CTA-708-E, command descriptions): what each bit of the bytes
--- behind the code says. Bits that aren't named here are not looked at.
+-- after the code says. Bits that aren't named here are not looked at.
 use Rattle.std.specs.Prelude.{ℕ, ◌+◌, ◌*◌, ◌/◌, ◌%◌, ◌==◌, Bool, List, slice_index}
 use Rattle.dtvcc_codes.specs.declared.pens.Fill.{Fill}
 use Rattle.dtvcc_codes.specs.declared.pens.PenAttr.{PenAttr}

@@ -24,7 +24,7 @@ abbrev pub counted_size : List ℕ → ℕ
 counted_size [] = 1
 counted_size (count ∷ skipped) = 1 + count % 32
 
--- the number of bytes behind EXT1
+-- the number of bytes after EXT1
 abbrev pub extended_size : List ℕ → ℕ
 extended_size [] = 1
 extended_size (code ∷ parameters) =
@@ -35,7 +35,7 @@ unfoldable pub told_size : List ℕ → ℕ
 told_size [] = 1
 told_size (code ∷ rest) = if code == ext1 then 1 + extended_size rest else 1 + count_at base_codes code
 
--- what a whole spelling says behind EXT1
+-- what a whole spelling says after EXT1
 abbrev pub extended_command : List ℕ → Command
 extended_command [] = Skipped
 extended_command (code ∷ parameters) = said_at extended_codes code parameters
@@ -49,15 +49,15 @@ spelled_command (code ∷ rest) = if code == ext1 then extended_command rest els
 abbrev pub is_whole : List ℕ → Bool
 is_whole bytes = nat_le (told_size bytes) (length bytes)
 
--- the command that a byte completes behind these open bytes, if it completes one
+-- the command that a byte completes after these open bytes, if it completes one
 abbrev pub completed : List ℕ → ℕ → Option Command
 completed front byte = if is_whole (front ++ byte ∷ []) then Some (spelled_command (front ++ byte ∷ [])) else None
 
--- the bytes that are open behind one more
+-- the bytes that are open after one more
 abbrev pub open_after : List ℕ → ℕ → List ℕ
 open_after front byte = if is_whole (front ++ byte ∷ []) then [] else front ++ byte ∷ []
 
--- what each byte completes, behind these open bytes
+-- what each byte completes, after these open bytes
 abbrev pub completions : List ℕ → List ℕ → List (Option Command)
 completions front [] = []
 completions front (byte ∷ bytes) = completed front byte ∷ completions (open_after front byte) bytes
@@ -67,7 +67,7 @@ abbrev pub command_step : Option Command → Step Command
 command_step None = Nothing
 command_step (Some command) = One command
 
--- what is made of a byte behind these open bytes
+-- what is made of a byte after these open bytes
 abbrev pub judge_byte : List ℕ → ℕ → Step Command
 judge_byte front byte = command_step (completed front byte)
 

@@ -70,7 +70,7 @@ fn entry_of_char(table: &[(u8, char)], ch: char) -> Option<(u8, char)>
     table.iter().copied().find(|entry| entry.1 == ch)
 }
 
-/// The spelling of a character by the code sets G0, G1 and G2, the first of these that has it: its code, behind EXT1 where it
+/// The spelling of a character by the code sets G0, G1 and G2, the first of these that has it: its code, after EXT1 where it
 /// is of G2. `None` exactly where no table has the character. The transparent codes of G2 spell no character
 /// (CTA-708-E, 7.1).
 #[inline(always)]

@@ -48,7 +48,7 @@ pub struct PenAttr {
 pub struct PenColors {
     /// The characters.
     pub fg: Fill,
-    /// Behind the characters.
+    /// After the characters.
     pub bg: Fill,
     /// The characters' edges.
     pub edge: Rgb,

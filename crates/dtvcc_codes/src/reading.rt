@@ -66,7 +66,7 @@ pub(crate) fn told_size(bytes: &[u8]) -> usize
     }
 }
 
-// The number of bytes behind EXT1.
+// The number of bytes after EXT1.
 fn extended_size(bytes: &[u8]) -> usize
     ensures says { result ≡ extended_size bytes.now }
     ensures small { result ≤ 33 }
@@ -135,7 +135,7 @@ fn base_command(code: u8, parameters: &[u8]) -> Command
     }
 }
 
-// What the bytes behind EXT1 say, of a whole spelling.
+// What the bytes after EXT1 say, of a whole spelling.
 #[tactic(auto, using(crate::proofs::CharacterLemmas::low_line_spelled, crate::proofs::CharacterLemmas::g2_spelled))]
 fn extended_command(bytes: &[u8]) -> Command
     ensures says { result ≡ extended_command bytes.now }

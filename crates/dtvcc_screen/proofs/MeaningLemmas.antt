@@ -1,4 +1,4 @@
--- One event more, and events behind events.
+-- One event more, and events after events.
 use Rattle.std.proofs.Common.{◌≡◌, List, [], ◌∷◌, ◌++◌, refl, sym, ap, subst, ◌∙◌}
 use Rattle.dtvcc_screen.specs.declared.service.Service.{Service}
 use Rattle.dtvcc_screen.specs.Meaning.{Event, Served, on_event, served_after, start}

@@ -23,7 +23,7 @@ pub window_here : (windows : List Window) (id : ℕ) (window : Window) → id < 
 unfolding windows_of
 window_here windows id window within is = ap window_at (slice_get_read windows (length windows) id window refl within is)
 
--- behind the last place
+-- past the last place
 pub window_past : (windows : List Window) (id : ℕ) → length windows ≤ id → windows_of windows id ≡ None
 unfolding windows_of
 window_past windows id past = ap window_at (slice_get_past windows id past)
@@ -117,7 +117,7 @@ changed_none Hide = refl
 changed_none Toggle = refl
 changed_none Delete = refl
 
--- behind the last one there is none
+-- after the last one there is none
 pub upto_all : (is_named : ℕ → Bool) (change : Change) (windows : List Window) (n : ℕ) → length windows ≤ n
     → upto n (on_windows is_named (changed_by change) (windows_of windows)) (windows_of windows)
     ≡ on_windows is_named (changed_by change) (windows_of windows)

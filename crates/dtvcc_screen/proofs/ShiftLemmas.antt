@@ -13,7 +13,7 @@ use Rattle.dtvcc_screen.specs.Cores.{CoreState, acted_if, after_byte, after_tick
 use Rattle.dtvcc_screen.specs.Meaning.{Byte, Event, Reset, Served, Tick, cleaned, on_event, served_after, ticked}
 use Rattle.dtvcc_screen.specs.declared.clock.Clock.{Clock}
 
--- so many frames later
+-- this many frames later
 abbrev pub later_core : ℕ → CoreState → CoreState
 later_core d core = record core { until = option_map (λ (n : ℕ). n + d) core.until }
 

@@ -98,7 +98,7 @@ idles_stands state byte clock said was now stands fits none says is no_reset kee
     } in
     subst (λ (s : CoreState). Stands s now) (sym to_next) after
 
--- DelayCancel in a delay: nothing is open behind it, and nothing was before
+-- DelayCancel in a delay: nothing is open after it, and nothing was before
 pub cancel_is : (said : Option Command) → is_cancel said ≡ true → said ≡ Some Dlc
 cancel_is None is = cc
 cancel_is (Some Dlc) is = refl
@@ -245,7 +245,7 @@ take_all (x ∷ xs) (suc n) long = ap (λ (ys : List ℕ). x ∷ ys) (take_all x
 pub rest_of : (now bytes : List ℕ) (k n : ℕ) → now ≡ take (n - k) (drop k bytes) → n ≡ length bytes → now ≡ drop k bytes
 rest_of now bytes k n is all = is ∙ take_all (drop k bytes) (n - k) (omega (arith, length-drop k bytes))
 
--- a command that acts among held bytes starts a delay, in which those behind it are held
+-- a command that acts among held bytes starts a delay, in which those after it are held
 rest_all : (bytes : List ℕ) (clock : Clock) (open_bytes : List ℕ) (screen : ScreenState)
     → rest_acted bytes 0 clock open_bytes screen ≡ all_acted (completions [] bytes) clock (acting_on open_bytes screen)
 rest_all [] clock open_bytes screen = refl

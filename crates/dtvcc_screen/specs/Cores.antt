@@ -18,7 +18,7 @@ pub record CoreState : Type 0 where
   pub until : Option ℕ
   pub held : List (Option Command)
 
--- a service before its first byte, and behind a reset
+-- a service before its first byte, and after a reset
 abbrev pub clean : CoreState
 clean = record { screen = empty_screen; open_bytes = []; until = None; held = [] }
 
@@ -39,7 +39,7 @@ abbrev pub tenths_of : Command → ℕ
 tenths_of (Dly tenths) = tenths
 tenths_of _ = 0
 
--- a delay ends so many frames behind the frame in which it acts, at the rate of that frame; one of 0 is none
+-- a delay ends this many frames after the frame in which it acts, at the rate of that frame; one of 0 is none
 abbrev pub until_of : ℕ → Clock → Option ℕ → Option ℕ
 until_of tenths clock until = if tenths == 0 then until else Some (clock.ticks + delay_frames_of clock.rate tenths)
 
@@ -57,7 +57,7 @@ abbrev pub go_on : Option ℕ → List (Option Command) → CoreState → CoreSt
 go_on None rest core all = all
 go_on (Some end) rest core all = record core { held = rest }
 
--- what was held acts in order; a delay that starts there holds all that stands behind it
+-- what was held acts in order; a delay that starts there holds all that follows it
 abbrev pub all_acted : List (Option Command) → Clock → CoreState → CoreState
 all_acted [] clock core = core
 all_acted (first ∷ rest) clock core =

@@ -27,7 +27,7 @@ bytes_among (Tick rate ∷ events) = bytes_among events
 bytes_among (Byte byte ∷ events) = byte ∷ bytes_among events
 bytes_among (Reset ∷ events) = bytes_among events
 
--- behind these open bytes, nothing among the events resets the service
+-- after these open bytes, nothing among the events resets the service
 abbrev pub HasNoReset : List ℕ → List Event → Type 0
 HasNoReset open_bytes [] = ⊤
 HasNoReset open_bytes (Tick rate ∷ events) = HasNoReset open_bytes events

@@ -21,7 +21,7 @@ pub record Served : Type 0 where
 abbrev pub start : Served
 start = record { clock = record { ticks = 0; rate = F2997 }; core = clean }
 
--- behind a reset, whatever the clock has counted by then
+-- after a reset, whatever the clock has counted by then
 abbrev pub cleaned : Clock → Served
 cleaned clock = record { clock = clock; core = clean }
 

@@ -1,6 +1,6 @@
 use cc_base::Rate;
 
-/// What all services are told of the frames.
+/// What all services get of the frames.
 #[derive(Clone, Copy, PartialEq, Eq)]
 pub struct Clock {
     /// The frames so far, the present one counted.

@@ -174,7 +174,7 @@ impl Core {
         self.changed = true;
     }
 
-    // Held bytes act in order; a delay that starts there holds all that stands behind it.
+    // Held bytes act in order; a delay that starts there holds all that follows it.
     fn act_all(&mut self, clock: Clock, bytes: &[u8])
         requires ticks { clock.ticks < 2 ^ 32 }
         requires empty { self.old.held.items ≡ [] }

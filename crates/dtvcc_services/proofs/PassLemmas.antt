@@ -69,7 +69,7 @@ more_below step next earlier noted more place was now default after so_far withi
       weaker step next earlier noted more one other less fewer
       (so_far.each i one other (grind (arith, nat_tests)) from (sym (set_other now place after i apart) ∙ to))
 
--- behind the last one all have
+-- after the last one all have
 pub all_below : (step : CoreState → CoreState) (next : ℕ) (noted : Bool) (place : ℕ) (was now : List Member) → HaveBelow step next noted place was now
     → length was ≤ place → HaveStepped step next noted was now
 all_below step next noted place was now so_far past = record {

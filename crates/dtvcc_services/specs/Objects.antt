@@ -17,11 +17,11 @@ use Rattle.dtvcc_services.specs.Passing.{NoneEndsBefore}
 abbrev pub Events : Type 0
 Events = ℕ → List Event
 
--- a service behind its events
+-- a service after its events
 abbrev pub service_behind : Events → ℕ → Served
 service_behind events service = served_after start (events service)
 
--- behind its events of the frames before, and those of the present frame
+-- after its events of the frames before, and those of the present frame
 abbrev pub served_now : Events → Events → ℕ → Served
 served_now before frame service = served_after start (before service ++ frame service)
 

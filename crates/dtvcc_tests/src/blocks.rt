@@ -28,13 +28,13 @@ fn a_block_is_cut_short_with_its_packet()
     ensures cut { heard_parts (starting 0x03 0x23 ∷ continuing 0x41 0x42 ∷ starting 0x41 0x00 ∷ []) ≡ part.Byte 1 0x41 ∷ part.Byte 1 0x42 ∷ [] }
 {}
 
-// A header 00 ends the blocks of its packet, whatever stands behind it.
+// A header 00 ends the blocks of its packet, whatever follows it.
 fn a_header_of_00_ends_the_blocks()
     ensures blocks { AreBlocks 5 (record { header = 0x21; rest = 0x41 ∷ [] } ∷ []) (0x21 ∷ 0x41 ∷ 0x00 ∷ 0x3F ∷ 0x42 ∷ []) }
     ensures says { heard_parts (starting 0x03 0x21 ∷ continuing 0x41 0x00 ∷ continuing 0x3F 0x42 ∷ []) ≡ part.Byte 1 0x41 ∷ [] }
 {}
 
-// A missing packet is a reset, behind the bytes before it.
+// A missing packet is a reset, after the bytes before it.
 fn a_gap_is_a_reset()
     ensures { heard_parts (starting 0x02 0x21 ∷ continuing 0x41 0x00 ∷ starting 0x82 0x22 ∷ continuing 0x42 0x43 ∷ [])
         ≡ part.Byte 1 0x41 ∷ part.Reset ∷ part.Byte 1 0x42 ∷ part.Byte 1 0x43 ∷ [] }

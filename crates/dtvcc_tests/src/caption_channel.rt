@@ -10,20 +10,20 @@ ghost use Rattle.channel_packets.specs.Written.{continuing, starting};
 mod reading;
 mod writing;
 
-// A packet whose size code is 0 has 127 bytes behind its header, those of 63 triplets and one; further bytes belong to no
+// A packet whose size code is 0 has 127 bytes after its header, those of 63 triplets and one; further bytes belong to no
 // packet.
 fn a_size_code_of_0_is_127_bytes()
     ensures { AreChannelPackets (record { header = 0x40; bytes = replicate 127 0x41 } ∷ [])
         (starting 0x40 0x41 ∷ (replicate 63 (continuing 0x41 0x41) ++ continuing 0x42 0x42 ∷ [])) }
 {}
 
-// A packet of 5 bytes is cut short by the start of the next one, behind 3.
+// A packet of 5 bytes is cut short by the start of the next one, after 3.
 fn a_start_cuts_a_packet_short()
     ensures { AreChannelPackets (record { header = 0x03; bytes = 1 ∷ 2 ∷ 3 ∷ [] } ∷ record { header = 0x42; bytes = 4 ∷ 5 ∷ 6 ∷ [] } ∷ [])
         (starting 0x03 1 ∷ continuing 2 3 ∷ starting 0x42 4 ∷ continuing 5 6 ∷ []) }
 {}
 
-// Bytes before the first packet, and behind a whole one, belong to no packet.
+// Bytes before the first packet, and after a whole one, belong to no packet.
 fn bytes_without_an_open_packet_are_left_out()
     ensures { AreChannelPackets (record { header = 0x01; bytes = 3 ∷ [] } ∷ [])
         (continuing 1 2 ∷ starting 0x01 3 ∷ continuing 4 5 ∷ []) }

@@ -21,12 +21,12 @@ pub none_before : (places : List (Option DCell)) (first r c : ℕ) → AllWithin
 none_before places first r c none above =
     none_at places r c (λ inside. none (place r c) None (omega arith) (omega (arith, col_to r c inside)))
 
--- and no row that begins at the place behind the last one or after it
+-- and no row that begins at the place after the last one or after it
 pub none_behind : (places : List (Option DCell)) (behind r c : ℕ) → AllWithin (λ cell. cell ≡ None) places behind 1024 → behind ≤ r * 64 → listed_cells places r c ≡ None
 none_behind places behind r c none below =
     none_at places r c (λ inside. none (place r c) None (omega arith) (omega (arith, row_to r c inside, col_to r c inside)))
 
--- no place has a cell where the first one isn't before the one behind the last
+-- no place has a cell where the first one isn't before the one after the last
 pub none_at_all : (places : List (Option DCell)) (first behind r c : ℕ) → AllWithin (λ cell. cell ≡ None) places 0 first → AllWithin (λ cell. cell ≡ None) places behind 1024 → behind ≤ first → listed_cells places r c ≡ None
 none_at_all places first behind r c none_above none_below empty =
     none_at places r c (λ inside. elim (cases_lt (place r c) first) [
@@ -43,7 +43,7 @@ row_is places r cols from to long row_to cols_to is_from is_to =
     (λ k within. get_or-take (to - from) (drop from places) k None (omega arith) ∙ get_or-drop from places k None
     ∙ ap (λ at. get_or places at None) (omega arith) ∙ sym (cell_at places r k row_to (omega arith)))
 
--- two lists without cells before and behind some places agree where they agree at these
+-- two lists without cells before and after some places agree where they agree at these
 pub same_places : (xs ys : List (Option DCell)) (from to : ℕ) → length xs ≡ 1024 → length ys ≡ 1024
     → AllWithin (λ cell. cell ≡ None) xs 0 from → AllWithin (λ cell. cell ≡ None) ys 0 from
     → AllWithin (λ cell. cell ≡ None) xs to 1024 → AllWithin (λ cell. cell ≡ None) ys to 1024

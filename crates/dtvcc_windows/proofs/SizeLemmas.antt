@@ -77,7 +77,7 @@ kept_above-none rows cols g = fun_ext (λ r. fun_ext (λ c. sym (chosen_not (nat
 pub kept_above-row : (row rows cols : ℕ) (g : Cells) → row < rows → without_cells (kept_above row rows cols g) row cols ≡ kept_above (row + 1) rows cols g
 kept_above-row row rows cols g within = fun_ext (λ r. fun_ext (λ c. grind (arith, nat_tests)))
 
--- or none, behind the last row of the size
+-- or none, past the last row of the size
 pub kept_above-behind : (row rows cols : ℕ) (g : Cells) → rows ≤ row → without_cells (kept_above row rows cols g) row 0 ≡ kept_above (row + 1) rows cols g
 kept_above-behind row rows cols g behind = fun_ext (λ r. fun_ext (λ c. grind (arith, nat_tests)))
 

@@ -12,7 +12,7 @@ ShowsNothing edit = (w : WindowState) → w.visible ≡ false → shown (Some (e
 abbrev pub IsUnseen : (WindowState → WindowState) → Type 0
 IsUnseen edit = (w : WindowState) → shown (Some (edit w)) ≡ shown (Some w)
 
--- the pen stands in a row of the window, and at one of its columns or behind the last
+-- the pen stands in a row of the window, and at one of its columns or after the last
 pub record IsInside (w : WindowState) : Type 0 where
   pub row : w.row < w.definition.rows
   pub col : w.col ≤ w.definition.cols

@@ -29,7 +29,7 @@ without_row cells row r c = if r == row then None else cells r c
 abbrev pub raised : Cells → Cells
 raised cells r c = cells (r + 1) c
 
--- the same in a window of so many rows, of which the last is then empty
+-- the same in a window of this many rows, of which the last is then empty
 abbrev pub window_rolled : ℕ → Cells → Cells
 window_rolled rows cells r c = if nat_lt (r + 1) rows then cells (r + 1) c else None
 

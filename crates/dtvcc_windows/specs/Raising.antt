@@ -1,5 +1,5 @@
 -- Between crates: the program's answer stands on none of these definitions.
--- What stands at the places of a window, row by row, behind a roll of its rows.
+-- What stands at the places of a window, row by row, after a roll of its rows.
 use Rattle.std.specs.Prelude.{◌≡◌, ℕ, ◌+◌, ◌<◌, List, Option, None, slice_index_or}
 use Rattle.std.specs.List.{AllWithin}
 use Rattle.dtvcc_windows.specs.declared.cells.DCell.{DCell}

@@ -1,5 +1,5 @@
 -- Believed in part: the program's answer stands on some of these definitions.
--- The size of a caption window: so many rows and columns (CTA-708-E, DefineWindow: row count and
+-- The size of a caption window: this many rows and columns (CTA-708-E, DefineWindow: row count and
 -- column count).
 use Rattle.std.specs.Prelude.{◌≡◌, ℕ, ◌&&◌, nat_lt, Bool, false, if◌then◌else◌, None}
 use Rattle.dtvcc_windows.specs.Places.{Cells}

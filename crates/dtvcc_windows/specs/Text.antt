@@ -12,7 +12,7 @@ inked (Some ch) w = Some (record { ch = ch; pen = w.pen; colors = w.colors })
 inked None w = None
 
 -- a character is written at the pen, or the transparent space removes the cell there, and the pen moves one
--- column right; behind the last column it is dropped (for the last, this project's own choice)
+-- column right; past the last column it is dropped (for the last, this project's own choice)
 abbrev pub with_character : Option ℕ → WindowState → WindowState
 with_character ch w =
     if w.col == w.definition.cols then w

@@ -86,7 +86,7 @@ impl Cells {
         first..last + 1
     }
 
-    // What stands in a row, in so many columns.
+    // What stands in a row, in this many columns.
     pub(crate) fn row(&self, row: u8, cols: u8) -> &[Option<DCell>]
         requires filled { vec_len self.now.places ≡ 1024 }
         requires row { row < 16 }

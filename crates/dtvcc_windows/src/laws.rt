@@ -12,7 +12,7 @@ ghost use Rattle.dtvcc_windows.specs.Sizes.{in_size};
 ghost use Rattle.dtvcc_windows.specs.Text.{carriage_returned, cleared, form_fed, located, row_returned, window_backspaced, with_character};
 ghost use Rattle.dtvcc_windows.specs.Windows.{WindowState, with_attributes, with_colors, with_window_pen};
 
-/// A redefinition with the same size keeps all cells, and a pen that isn't behind the last column.
+/// A redefinition with the same size keeps all cells, and a pen that isn't past the last column.
 pub fn same_size_keeps_text()
     ensures cells { (d : Definition) (w : WindowState) (row col : ℕ) → d.rows ≡ w.definition.rows
         → d.cols ≡ w.definition.cols
@@ -47,7 +47,7 @@ pub fn backspace_takes_back()
         → window_backspaced (with_character ch w) ≡ w }
 {}
 
-/// What comes behind the last column is dropped, the transparent space too.
+/// What follows the last column is dropped, the transparent space too.
 pub fn text_behind_the_last_column_is_dropped()
     ensures { (ch : Option ℕ) (w : WindowState) → w.col ≡ w.definition.cols
         → with_character ch w ≡ w }

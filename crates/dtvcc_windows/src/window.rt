@@ -21,7 +21,7 @@ pub struct Window {
     visible: bool,
     definition: Definition,
     attributes: WinAttr,
-    // Where the pen stands: at the column behind the last one too.
+    // Where the pen stands: at the column after the last one too.
     row: u8,
     col: u8,
     pen: PenAttr,
@@ -109,7 +109,7 @@ impl Window {
     }
 
     /// Writes a character at the pen, or removes the cell there (`None`, the transparent space), and moves the pen one column
-    /// right (CTA-708-E, G0 to G3). Behind the last column it is dropped.
+    /// right (CTA-708-E, G0 to G3). Past the last column it is dropped.
     pub fn put(&mut self, ch: Option<char>)
         requires { IsTrue (is_live self.old) }
         ensures window { window_of self.new ≡ option_map (with_character ch) (window_of self.old) }

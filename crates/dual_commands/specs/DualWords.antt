@@ -15,7 +15,7 @@ use Rattle.cue_list_commands.specs.Sound.{IsSoundFrames}
 abbrev pub dual_framing : PlacedLists → Framing
 dual_framing lists = record { rate = lists.one.rate; columns = dual_columns lists.one lists.two lists.placed; count = lists.one.frames }
 
--- what holds of the words that `dual` puts: their frames are sound, no service is told more than its share of the first list; a
+-- what holds of the words that `dual` puts: their frames are sound, no service gets more than its share of the first list; a
 -- receiver that was reset before the first frame shows at each frame that is settled for a channel by its own list the first list on CC1
 -- and CC3, the second on CC2 and CC4, and the first list's windows at every frame; and the delay of each of its window cues is sent
 pub record IsSoundDual (lists : PlacedLists) : Type 0 where

@@ -52,7 +52,7 @@ module _ (first second : Listing) (of_list : Chan) (places : Places) (is : IsDua
       let e = after-none f new_channel new_channel refl refl in
       (ap (λ (s : FieldState). s.first.displayed) (sym e), ap (λ (s : FieldState). s.second.displayed) (sym e))
 
-  -- behind so many slots
+  -- after this many slots
   by_slots : (frame m : ℕ) → slot_from (cadence_of first.rate of_list) (suc frame) ≡ m → ShowsBoth first second of_list (after (field_of_channel of_list) (pairs_before (slot t) m)) frame
   by_slots frame zero come = record {
     first_shown = λ settled. (none_yet (field_of_channel of_list)).0 ∙ sym (grid_before_slots (cadence_of first.rate of_list) frame come of_list first.cues ((lanes_ruled first is.ruled).on_slots of_list));

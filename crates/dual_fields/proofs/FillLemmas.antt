@@ -26,7 +26,7 @@ pub record Reaches (slots : Slots) (us : List Part) (places : List Place) (end :
   pub stand : Stand slots 0 us (slots_at places) (resumes_at places)
   pub end_is : end ≡ end_of_parts (zip us (slots_at places))
 
--- one more unit in the first slot that is allowed behind others
+-- one more unit in the first slot that is allowed after others
 fit_push : {U : Type 0} (allowed : List (U × ℕ) → U → ℕ → Type 0) (before : List (U × ℕ)) (us : List U) (fs : List ℕ) (u : U) (f : ℕ)
     → IsFirstFit allowed before us fs → IsFirst (allowed (before ++ zip us fs) u) f → IsFirstFit allowed before (us ++ u ∷ []) (fs ++ f ∷ [])
 fit_push allowed before [] [] u f fit first = (subst (λ b. IsFirst (allowed b u) f) (append-nil before) first, tt)

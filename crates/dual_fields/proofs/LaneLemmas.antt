@@ -67,7 +67,7 @@ again_none slots end (part ∷ parts) (f ∷ fs) (Some at ∷ rs) n stand low =
     let test : (n == at) ≡ false = grind (arith, nat_tests) in
     again_at part parts at rs n false test ∙ again_none slots (f + part_slots part) parts fs rs n stand.2 (omega (arith, stand.0.behind))
 
--- nothing of a lane's own events begins in a slot that is free, nor in the one behind an event
+-- nothing of a lane's own events begins in a slot that is free, nor in the one after an event
 pub free_none : (slots : Slots) (events : Timeline) → ((n : ℕ) (unit : Unit) → events n ≡ Some unit → (slots.free n ≡ false) × (slots.free (n + 1) ≡ false))
     → (n : ℕ) → slots.free n ≡ true → events n ≡ None
 free_none slots events held n free = by_event (events n) refl
@@ -92,7 +92,7 @@ UnderWay t end (Some former) = IsUnderWay t end former
 
 module _ (slots : Slots) (events t : Timeline)
     (held : (n : ℕ) (unit : Unit) → events n ≡ Some unit → (slots.free n ≡ false) × (slots.free (n + 1) ≡ false)) where
-  -- one unit, behind the units before it
+  -- one unit, after the units before it
   module _ (end : ℕ) (part : Part) (parts : List Part) (f : ℕ) (fs : List ℕ) (r : Option ℕ) (rs : List (Option ℕ))
       (stand : Stand slots end (part ∷ parts) (f ∷ fs) (r ∷ rs))
       (same : (n : ℕ) → end ≤ n → t n ≡ option_or (events n) (stands (part_chunks (part ∷ parts)) (f ∷ fs) n)) where
@@ -123,7 +123,7 @@ module _ (slots : Slots) (events t : Timeline)
         same n (omega (arith, stand.0.behind)) ∙ ap (λ u. option_or u (stands (part_chunks (part ∷ parts)) (f ∷ fs) n)) none
         ∙ stands_at part parts f fs n false test ∙ stands_none slots (f + part_slots part) parts fs rs n stand.2 low
 
-    -- behind it the rest goes on
+    -- after it the rest goes on
     pub same_behind : (n : ℕ) → f + part_slots part ≤ n → t n ≡ option_or (events n) (stands (part_chunks parts) fs n)
     same_behind n high =
         let test : (n == f) ≡ false = let s = some_size part in grind (arith, nat_tests) in
@@ -187,7 +187,7 @@ module _ (slots : Slots) (events t : Timeline)
         nothing = in_front at (omega (arith, is.last_is.behind, is.at_is.behind)) (omega (arith, is.at_is.before)) ∙ free_none slots events held at is.at_is.first;
       }
 
-  -- a unit behind the units before it puts its cue under way, or leaves it so
+  -- a unit after the units before it puts its cue under way, or leaves it so
   under_next : (end : ℕ) (part : Part) (parts : List Part) (f : ℕ) (fs : List ℕ) (r : Option ℕ) (rs : List (Option ℕ))
       (stand : Stand slots end (part ∷ parts) (f ∷ fs) (r ∷ rs))
       (same : (n : ℕ) → end ≤ n → t n ≡ option_or (events n) (stands (part_chunks (part ∷ parts)) (f ∷ fs) n))

@@ -55,7 +55,7 @@ pub covered_rest : (end : ℕ) (part : Part) (parts : List Part) (f : ℕ) (fs :
     → covers end (part ∷ parts) (f ∷ fs) m ≡ true
 covered_rest end part parts f fs m is = or_second _ (covers (f + part_slots part) parts fs m) is
 
--- up to a slot the lane is led by a control code of its own, behind which the other lane has nothing
+-- up to a slot the lane is led by a control code of its own, after which the other lane has nothing
 pub record IsLedUp (own other : Timeline) (end : ℕ) : Type 0 where
   at : ℕ
   before : at < end
@@ -171,7 +171,7 @@ module _ (slots : Slots) (events t own other : Timeline)
             (cases_lt m f);
       }
 
-  -- the state behind a unit: what leads, and that the cue's first unit begins its mode
+  -- the state after a unit: what leads, and that the cue's first unit begins its mode
   pub record IsBehindUnit (end : ℕ) (part : Part) : Type 0 where
     led : IsLedUp own other end
     mode : Mode

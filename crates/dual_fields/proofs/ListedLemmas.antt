@@ -88,7 +88,7 @@ writing_own code (preamble row col style) = refl
 writing_own code (tab columns) = refl
 writing_own code (mid_row colour underline) = refl
 
--- codes behind a cue's first one
+-- codes after a cue's first one
 abbrev AllLater : List Code → Type 0
 AllLater [] = ⊤
 AllLater (code ∷ codes) = (keeps_mode code ≡ true) × (IsFor data_channels.One code × AllLater codes)
@@ -178,7 +178,7 @@ later_own f number cue first (code ∷ codes) behind own writable later rest = (
   later_own f number cue first codes behind own (All-tail IsWritable code codes writable) later.1.1 rest,
 )
 
--- what holds of parts behind others
+-- what holds of parts after others
 later_quiet : (events : ℕ → Option Unit) (f : FieldNumber) (number : ℕ) (cue : Cue) (first : Unit) (codes : List Code) (behind : List Part)
     → ((n : ℕ) (unit : Unit) → cue.load < n → n < cue.show → events n ≡ Some unit → keeps_mode (code_of unit.pair) ≡ true)
     → AreQuiet events behind → AreQuiet events (map (later_part first) (chunks_with f number cue codes) ++ behind)
@@ -323,7 +323,7 @@ all_apart : (n : ℕ) (P : Cue → Type 0) → ((cue : Cue) → P cue → cue.sh
 all_apart n P apart [] all = tt
 all_apart n P apart (cue ∷ cues) all = (apart cue all.0, all_apart n P apart cues all.1)
 
--- the cues behind one are loaded at its SHOW or later, and shown later
+-- the cues after one are loaded at its SHOW or later, and shown later
 abbrev ComeBehind : ℕ → List Cue → Type 0
 ComeBehind show cues = AllByRecursion (λ (cue : Cue). (show ≤ cue.load) × (show < cue.show)) cues
 

@@ -1,4 +1,4 @@
--- A lane beside another: what fits behind later units fits behind earlier ones, so that first fit is its earliest placement.
+-- A lane beside another: what fits after later units fits after earlier ones, so that first fit is its earliest placement.
 use Rattle.std.proofs.Common.{◌≡◌, ℕ, ◌+◌, ◌<◌, ◌≤◌, Bool, true, false, List, [], ◌∷◌, ◌++◌, refl, sym, ap, subst, arith, cond, fold, ⊎_elim}
 use Rattle.std.specs.Prelude.{All}
 use Rattle.std.proofs.lemmas.Bool.{cases_lt}
@@ -16,11 +16,11 @@ use Rattle.dual_fields.specs.ResumedLane.{HasTwo, end_of_parts, resumed_lane}
 use Rattle.dual_fields.specs.Slots.{AreSound, Slots}
 use Rattle.dual_fields.specs.declared.part.Part.{Part}
 
--- the end behind one more unit
+-- the end after one more unit
 pub end_push : (before : List (Part × ℕ)) (u : Part) (f : ℕ) → end_of_parts (before ++ (u, f) ∷ []) ≡ f + part_slots u
 end_push before u f = fold-append _ _ before ((u, f) ∷ [])
 
--- the end behind units that stand no later is no later
+-- the end after units that stand no later is no later
 ends_no_later : (us : List Part) (fs gs : List ℕ) (d e : ℕ) → d ≤ e → NoLater fs gs
     → fold (λ (end : ℕ) (placed : Part × ℕ). placed.1 + part_slots placed.0) d (zip us fs)
     ≤ fold (λ (end : ℕ) (placed : Part × ℕ). placed.1 + part_slots placed.0) e (zip us gs)
@@ -32,7 +32,7 @@ ends_no_later (u ∷ us) (f ∷ fs) (g ∷ gs) d e h n =
     ends_no_later us fs gs (f + part_slots u) (g + part_slots u) (let l : f ≤ g = n.0 in omega arith) n.1
 
 module _ (slots : Slots) where
-  -- said without the unit before, what fits behind later units fits behind earlier ones
+  -- said without the unit before, what fits after later units fits after earlier ones
   pub fits_earlier : FitsEarlier (lane_alone slots)
   fits_earlier us fs gs u g p q n a = record {
     behind = omega (arith, a.behind, ends_no_later us fs gs 0 0 (omega arith) n);
@@ -42,7 +42,7 @@ module _ (slots : Slots) where
     resumed = a.resumed;
   }
 
-  -- any foreign slot before the end of the units placed so far has two neighbouring free ones behind it
+  -- any foreign slot before the end of the units placed so far has two neighbouring free ones after it
   abbrev HaveTwo : List (Part × ℕ) → Type 0
   HaveTwo before = (m : ℕ) → m < end_of_parts before → slots.foreign m ≡ true → HasTwo slots m (end_of_parts before)
 

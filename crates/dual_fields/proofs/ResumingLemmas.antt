@@ -104,7 +104,7 @@ character_alike : (ch : Option ℕ) (s : ChannelState) → AreAlike (after_chara
 character_alike (Some ch) s = chosen (takes_captions s) (printed ch s) s s (printed_alike ch s) (self s)
 character_alike None s = self s
 
--- behind such codes the mode is as it was
+-- after such codes the mode is as it was
 does_alike : (code : Code) (s : ChannelState) → keeps_mode code ≡ true → AreAlike (does code s) s
 does_alike Null s is = self s
 does_alike (Text first second) s is =

@@ -1,4 +1,4 @@
--- A unit is looked for from the slot behind the units before it on, or, where it is its cue's first, from its LOAD on: that is the same.
+-- A unit is looked for from the slot after the units before it on, or, where it is its cue's first, from its LOAD on: that is the same.
 use Rattle.std.proofs.Common.{◌≡◌, ◌<◌, ◌≤◌, ◌||◌, ℕ, Bool, true, false, Option, Some, None, sym, subst, refl, arith}
 use Rattle.std.specs.Prelude.{IfNone, IfSome, nat_le, if◌then◌else◌}
 use Rattle.std.proofs.lemmas.Bool.Decides.{nat_tests}
@@ -34,7 +34,7 @@ module _ (slots : Slots) (end : ℕ) (part : Part) where
       by_test true = behind
       by_test false = loaded
 
-  -- what is allowed behind the units before it is allowed from there on
+  -- what is allowed after the units before it is allowed from there on
   to_start : (slot : ℕ) → IsAllowedBeside slots end part slot → IsAllowedBeside slots (start_of end part) part slot
   to_start slot a = record {
     behind = start_reached slot a.behind a.loaded;

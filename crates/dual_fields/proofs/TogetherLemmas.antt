@@ -117,7 +117,7 @@ again_occupies slots end (part ∷ parts) [] (r ∷ rs) n unit stand is = absurd
 again_occupies slots end (part ∷ parts) (f ∷ fs) (r ∷ rs) n unit stand is =
     by_resume r refl (λ rest. again_occupies slots (f + part_slots part) parts fs rs n unit stand.2 rest)
   where
-    -- behind the unit
+    -- after the unit
     later : OccupiesAgain slots (f + part_slots part) parts fs rs n → again parts rs n ≡ Some unit → OccupiesAgain slots end (part ∷ parts) (f ∷ fs) (r ∷ rs) n
     later w at =
         let late : f + part_slots part ≤ n =
@@ -217,7 +217,7 @@ module _ (c : DataChannel) (slots : Slots) (events : Timeline) (parts : List Par
   no_event : (n : ℕ) → slots.free n ≡ true → events n ≡ None
   no_event n free = nothing_is (events n) (λ unit is. let wrong : slots.free n ≡ false = (held n unit is).0 in cc)
 
-  -- no unit stands in the slot behind an event, and none comes again there
+  -- no unit stands in the slot after an event, and none comes again there
   no_unit_behind : (n : ℕ) → slots.free n ≡ false → stands (part_chunks parts) fs n ≡ None
   no_unit_behind n taken =
       nothing_is (stands (part_chunks parts) fs n)

@@ -12,7 +12,7 @@ use Rattle.dual_fields.specs.declared.place.Resume.TheVariants.{NotNeeded, Neede
 use Rattle.dual_fields.specs.declared.part.Part.{Part}
 
 module _ (slots : Slots) (end slot : ℕ) (from : end ≤ slot) where
-  -- behind a foreign slot
+  -- after a foreign slot
   now_foreign : slots.foreign slot ≡ true → Describes slots end (slot + 1) Needed
   now_foreign is = (
     slot,
@@ -27,7 +27,7 @@ module _ (slots : Slots) (end slot : ℕ) (from : end ≤ slot) where
     },
   )
 
-  -- behind one that isn't
+  -- after one that isn't
   module _ (plain : slots.foreign slot ≡ false) where
     none_still : (last m : ℕ) → ((k : ℕ) → last < k → k < slot → slots.foreign k ≡ false) → last < m → m < slot + 1 → slots.foreign m ≡ false
     none_still last m none high low =

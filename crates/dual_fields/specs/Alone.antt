@@ -1,6 +1,6 @@
 -- Between crates: the program's answer stands on none of these definitions.
 -- The lane as it is without a word of the unit before: any foreign slot before a unit that isn't its cue's first has two neighbouring
--- free slots behind it.
+-- free slots after it.
 use Rattle.std.specs.Prelude.{◌≡◌, ℕ, ◌+◌, ◌<◌, ◌≤◌, true, List}
 use Rattle.dual_fields.specs.Parts.{part_slots}
 use Rattle.dual_fields.specs.ResumedLane.{HasTwo, end_of_parts}

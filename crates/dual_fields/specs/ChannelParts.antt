@@ -9,7 +9,7 @@ use Rattle.lanes.specs.declared.chunk.FieldChunk.{FieldChunk}
 use Rattle.lanes.specs.ChannelLane.{field_cue_chunks}
 use Rattle.dual_fields.specs.declared.part.Part.{Part}
 
--- a unit behind its cue's first one
+-- a unit after its cue's first one
 abbrev pub later_part : Unit → FieldChunk → Part
 later_part first chunk = record { chunk = chunk; first = first; later = true }
 

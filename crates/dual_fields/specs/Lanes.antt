@@ -41,7 +41,7 @@ pub record Continues (former part : Part) : Type 0 where
   pub load : part.chunk.load ≡ former.chunk.load
   pub keeps_it : keeps_mode (code_of part.chunk.unit.pair) ≡ true
 
--- a unit behind another, by whether it is its cue's first
+-- a unit after another, by whether it is its cue's first
 abbrev pub IsBehind : Bool → Option Part → Part → Type 0
 IsBehind false former part = Begins part
 IsBehind true None part = ⊥

@@ -6,11 +6,11 @@ use Rattle.dual_fields.specs.Parts.{part_slots}
 use Rattle.dual_fields.specs.Slots.{Slots}
 use Rattle.dual_fields.specs.declared.part.Part.{Part}
 
--- the first slot behind the units placed so far
+-- the first slot after the units placed so far
 abbrev pub end_of_parts : List (Part × ℕ) → ℕ
 end_of_parts before = fold (λ (end : ℕ) (placed : Part × ℕ). placed.1 + part_slots placed.0) 0 before
 
--- two neighbouring free slots behind slot m and before slot n
+-- two neighbouring free slots after slot m and before slot n
 pub record HasTwo (slots : Slots) (m n : ℕ) : Type 0 where
   pub at : ℕ
   pub behind : m < at
@@ -18,8 +18,8 @@ pub record HasTwo (slots : Slots) (m n : ℕ) : Type 0 where
   pub first : slots.free at ≡ true
   pub second : slots.free (at + 1) ≡ true
 
--- the unit may begin at the slot, where `end` is the first slot behind the units before it: where a foreign slot lies between it and
--- the unit of its cue before it, so do two neighbouring free ones, behind each such slot
+-- the unit may begin at the slot, where `end` is the first slot after the units before it: where a foreign slot lies between it and
+-- the unit of its cue before it, so do two neighbouring free ones, after each such slot
 pub record IsAllowedBeside (slots : Slots) (end : ℕ) (part : Part) (slot : ℕ) : Type 0 where
   pub behind : end ≤ slot
   pub loaded : part.chunk.load ≤ slot
@@ -38,7 +38,7 @@ pub record IsLastForeign (slots : Slots) (end slot last : ℕ) : Type 0 where
   pub foreign : slots.foreign last ≡ true
   pub none_later : (m : ℕ) → last < m → m < slot → slots.foreign m ≡ false
 
--- the first two neighbouring free slots behind a slot, before another
+-- the first two neighbouring free slots after a slot, before another
 pub record IsFirstTwo (slots : Slots) (last slot at : ℕ) : Type 0 where
   pub behind : last < at
   pub before : at + 2 ≤ slot
@@ -58,7 +58,7 @@ abbrev pub ResumesAt : Slots → ℕ → Part → ℕ → Option ℕ → Type 0
 ResumesAt slots end part slot (Some at) = (part.later ≡ true) × IsResume slots end slot at
 ResumesAt slots end part slot None = part.later ≡ true → (m : ℕ) → end ≤ m → m < slot → slots.foreign m ≡ false
 
--- the units stand in these slots behind `end`, and their cues' first units come again in those
+-- the units stand in these slots after `end`, and their cues' first units come again in those
 abbrev pub Stand : Slots → ℕ → List Part → List ℕ → List (Option ℕ) → Type 0
 Stand slots end [] [] [] = ⊤
 Stand slots end (part ∷ parts) (f ∷ fs) (r ∷ rs) =

@@ -26,7 +26,7 @@ opens (Text first second) = None
 opens (Xds first second) = None
 opens (Control second control) = opened control
 
--- the control codes behind which the mode is as it was
+-- the control codes after which the mode is as it was
 abbrev pub keeps : ControlCode → Bool
 keeps Rcl = false
 keeps Rdc = false
@@ -36,7 +36,7 @@ keeps Rtd = false
 keeps Eoc = false
 keeps _ = true
 
--- the codes behind which the mode is as it was
+-- the codes after which the mode is as it was
 abbrev pub keeps_mode : Code → Bool
 keeps_mode Null = true
 keeps_mode (Text first second) = true

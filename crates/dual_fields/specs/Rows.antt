@@ -1,5 +1,5 @@
 -- Between crates: the program's answer stands on none of these definitions.
--- A worked example: a cue of the first list, and one of the second whose text goes on behind the first one's erasure.
+-- A worked example: a cue of the first list, and one of the second whose text goes on after the first one's erasure.
 use Rattle.std.specs.Prelude.{◌≡◌, List, [], ◌∷◌, ◌++◌, Some, None, drop}
 use Rattle.line21_codes.specs.declared.channels.Chan.TheVariants.{Cc1}
 use Rattle.line21_codes.specs.declared.styles.Colour.TheVariants.{White}

@@ -24,6 +24,6 @@ is_foreign (Some Free) = false
 is_foreign (Some Own) = false
 is_foreign None = false
 
--- the slots that a table lists; behind it none is free
+-- the slots that a table lists; after it none is free
 abbrev pub slots_in : List SlotUse → Slots
 slots_in uses = record { free = λ n. is_free (slice_get uses n); foreign = λ n. is_foreign (slice_get uses n) }

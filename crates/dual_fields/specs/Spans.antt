@@ -4,7 +4,7 @@ use Rattle.std.specs.Prelude.{◌≡◌, ⊤, ℕ, ◌+◌, ◌≤◌, ◌||◌,
 use Rattle.dual_fields.specs.Parts.{BeginWithFirst, part_slots}
 use Rattle.dual_fields.specs.declared.part.Part.{Part}
 
--- the slot behind the last unit of a cue, whose units so far end at `end`
+-- the slot after the last unit of a cue, whose units so far end at `end`
 abbrev pub span_end : ℕ → List Part → List ℕ → ℕ
 span_end end (part ∷ parts) (f ∷ fs) = if part.later then span_end (f + part_slots part) parts fs else end
 span_end end _ _ = end
@@ -22,7 +22,7 @@ covers end (part ∷ parts) [] n = false
 covers end (part ∷ parts) (f ∷ fs) n =
     (nat_le (if part.later then end else f) n && nat_lt n (f + part_slots part)) || covers (f + part_slots part) parts fs n
 
--- each unit begins behind the one before
+-- each unit begins after the one before
 abbrev pub GoOn : ℕ → List Part → List ℕ → Type 0
 GoOn end (part ∷ parts) (f ∷ fs) = (end ≤ f) × GoOn (f + part_slots part) parts fs
 GoOn end _ _ = ⊤

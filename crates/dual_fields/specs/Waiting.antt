@@ -1,5 +1,5 @@
 -- Between crates: the program's answer stands on none of these definitions.
--- What a cursor knows behind a slot of whether a cue's first unit has to come again.
+-- What a cursor knows after a slot of whether a cue's first unit has to come again.
 use Rattle.std.specs.Prelude.{◌≡◌, ℕ, ◌+◌, ◌<◌, ◌≤◌, Bool, true, false, nat_le, nat_lt, not, ◌==◌, ◌||◌, ◌&&◌, if◌then◌else◌, Option, Some, None}
 use Rattle.dual_fields.specs.Parts.{part_slots}
 use Rattle.dual_fields.specs.ResumedLane.{IsLastForeign}
@@ -46,7 +46,7 @@ next_resume resume slot foreign two = if foreign then Needed else begun resume s
 abbrev pub NoForeign : Slots → ℕ → ℕ → Type 0
 NoForeign slots end slot = (m : ℕ) → end ≤ m → m < slot → slots.foreign m ≡ false
 
--- no two neighbouring free slots begin behind a slot and before another
+-- no two neighbouring free slots begin after a slot and before another
 abbrev pub NoTwo : Slots → ℕ → ℕ → Type 0
 NoTwo slots last slot = (other : ℕ) → last < other → other < slot → slots.free other ≡ true → slots.free (other + 1) ≡ false
 

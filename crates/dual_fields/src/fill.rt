@@ -10,8 +10,8 @@ use crate::slot_use::SlotUse;
 use lanes::PlanFault;
 use std::alloc::Global;
 
-/// Places each unit in the first slot that is allowed behind those before it, and the first units of cues again where they are
-/// needed. The answer is the earliest placement, or the first cue that has no room, or want of memory.
+/// Places each unit in the first slot that is allowed after those before it, and the first units of cues again where they are
+/// needed. The answer is the earliest placement, or the first cue that has no room, or out of memory.
 pub fn place_all(alloc: Global, uses: &[SlotUse], parts: &[Part]) -> Result<Vec<Place>, PlanFault>
     requires begun { All IsBegun parts.now }
     requires order { AreInCueOrder part_cue parts.now }

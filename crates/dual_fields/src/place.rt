@@ -18,7 +18,7 @@ pub struct Place {
 /// Whether a cue's first unit has to come again before its next unit.
 #[derive(Clone, Copy, PartialEq, Eq)]
 pub enum Resume {
-    /// No foreign slot lay behind the unit before.
+    /// No foreign slot lay after the unit before.
     NotNeeded,
     /// One did, and two neighbouring free slots didn't follow yet.
     Needed,
@@ -27,7 +27,7 @@ pub enum Resume {
 }
 
 /// The first slot from `end` on in which a unit may begin, and where its cue's first unit comes again before it. `None` where
-/// there is no such slot. Slots behind the table count as not free.
+/// there is no such slot. Slots after the table count as not free.
 pub fn first_place(uses: &[SlotUse], end: u32, part: Part) -> Option<Place>
     ensures first { IfSome result
         (λ place. IsFirst (IsAllowedBeside (slots_in uses.now) end part) place.slot) }
@@ -115,7 +115,7 @@ fn are_free(uses: &[SlotUse], slot: u32, size: u32) -> bool
     is_free(uses, slot as usize) && (size == 1 || is_free(uses, slot as usize + 1))
 }
 
-// Whether a unit may begin at a slot behind what was seen before it.
+// Whether a unit may begin at a slot after what was seen before it.
 fn is_ready(resume: Resume, slot: u32) -> bool
     ensures { result ≡ is_ready resume slot }
 {
@@ -136,7 +136,7 @@ fn resume_of(resume: Resume, later: bool) -> Option<u32>
     }
 }
 
-// What is known behind one more slot, which is foreign, or from which on two are free.
+// What is known after one more slot, which is foreign, or from which on two are free.
 fn next_resume(resume: Resume, slot: u32, foreign: bool, two: bool) -> Resume
     ensures { result ≡ next_resume resume slot foreign two }
 {

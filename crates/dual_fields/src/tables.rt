@@ -11,7 +11,7 @@ use crate::slot_use::SlotUse;
 use line21_author::Event;
 use std::alloc::{AllocError, Global};
 
-/// The table of so many slots for the first lane: its own list's events, and those of the other list. `AllocError` where there is
+/// The table of this many slots for the first lane: its own list's events, and those of the other list. `AllocError` where there is
 /// no memory for it.
 pub fn table(
     alloc: Global,
@@ -27,7 +27,7 @@ pub fn table(
     Ok(uses)
 }
 
-/// The table of so many slots for the second lane: the first list's events, its own list's, and the spans of the first lane, whose
+/// The table of this many slots for the second lane: the first list's events, its own list's, and the spans of the first lane, whose
 /// units stand in these places. `AllocError` where there is no memory for it.
 pub fn table_beside(
     alloc: Global,

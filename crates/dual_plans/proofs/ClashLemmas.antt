@@ -22,7 +22,7 @@ use Rattle.dual_plans.specs.declared.clash.Clash.{Clash}
 use Rattle.dual_plans.specs.declared.cue_event.CueEvent.{CueEvent}
 use Rattle.dual_plans.proofs.CueEventLemmas.{channel_slots}
 
--- an event that holds a slot doesn't begin behind it
+-- an event that holds a slot doesn't begin after it
 begins_by : (events : List CueEvent) (cue n m : ℕ) → BeginFrom m (slots_of events) → HoldsFor events cue n → m ≤ n
 begins_by [] cue n m from held = absurd held
 begins_by (event ∷ events) cue n m from (inl held) = omega (arith, from.0, held.1)

@@ -1,5 +1,5 @@
 -- Whether the units of a lane beside another one have a placement can be told: each unit in turn is tried in one slot after another
--- behind the units before it, until it would end too late.
+-- after the units before it, until it would end too late.
 use Rattle.std.proofs.Common.{◌≡◌, ◌⊎◌, inl, inr, ℕ, zero, suc, ◌+◌, ◌<◌, ◌≤◌, ◌&&◌, Bool, true, false, List, [], ◌∷◌, ◌++◌, Option, Some, None, All, length, get_or, take, refl, sym, ap, subst, arith}
 use Rattle.std.specs.Prelude.{if◌then◌else◌}
 use Rattle.std.proofs.lemmas.Bool.{cases_eq, cases_lt}
@@ -17,7 +17,7 @@ use Rattle.dual_fields.specs.declared.place.Resume.TheVariants.{NotNeeded}
 use Rattle.dual_fields.proofs.FillLemmas.{Reaches, filled_all, reaches_first, reaches_next, reaches_none}
 use Rattle.dual_fields.proofs.WaitingLemmas.{begins_allowed, described_first, described_next, placed_resumes, refused}
 
--- the first slot in which a unit may begin behind others, and where its cue's first unit comes again
+-- the first slot in which a unit may begin after others, and where its cue's first unit comes again
 record FirstPlace (slots : Slots) (end : ℕ) (part : Part) : Type 0 where
   place : Place
   first : IsFirst (IsAllowedBeside slots end part) place.slot

@@ -13,7 +13,7 @@ use Rattle.dual_plans.specs.Beside.{beside}
 use Rattle.dual_plans.specs.SecondLanes.{LaysBoth}
 use Rattle.dual_plans.specs.declared.second_lanes.SecondLanes.{SecondLanes}
 
--- one frame more: the parts of the object, before and behind
+-- one frame more: the parts of the object, before and after
 pub next_both : (firsts columns : Columns) (frame : ℕ) (old new : SecondLanes) (bytes : FrameBytes) (one two : Option Pair) (c d : Cadence) → LaysBoth firsts columns frame old
     → bytes ≡ firsts frame → c ≡ cadence_of old.rate Cc1 → d ≡ cadence_of old.rate Cc3
     → one ≡ beside bytes.one (given_in c old.frame old.one) → two ≡ beside bytes.two (given_in d old.frame old.two)
@@ -62,6 +62,6 @@ next_both firsts columns frame old new bytes one two c d makes bytes_are c_is d_
       },
     )
   where
-    -- a lane's pairs are the same behind a frame
+    -- a lane's pairs are the same after a frame
     same_pair : (e c : Cadence) (f n : ℕ) (p q : PlannedField) → q ≡ behind_frame c f p → lane_pair e p n ≡ lane_pair e q n
     same_pair e c f n p q is = sym (ap (λ (x : PlannedField). lane_pair e x n) is)

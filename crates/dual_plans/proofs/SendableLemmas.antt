@@ -130,7 +130,7 @@ module _ (list : Listing) (channel : Chan) (formed : IsFormed list) (ruled : IsR
     ended = λ doubled. event_ended (slots_in_list list channel) (channel_events channel (slot_cues list channel)) n unit ended.events_are is;
   }
 
-  -- behind the list no event begins
+  -- after the list no event begins
   no_event : (o : Option Unit) → event_at (channel_events channel (slot_cues list channel)) (slots_in_list list channel) ≡ o
       → event_at (channel_events channel (slot_cues list channel)) (slots_in_list list channel) ≡ None
   no_event None is = is

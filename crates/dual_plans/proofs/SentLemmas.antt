@@ -16,7 +16,7 @@ use Rattle.dual_fields.specs.declared.part.Part.{Part}
 use Rattle.dual_fields.specs.Lanes.{again, part_chunks, whole}
 use Rattle.dual_fields.proofs.LaneLemmas.{again_at, some_size, stands_at, two_size}
 
--- a unit that begins in a slot is of bytes, and sent within so many slots
+-- a unit that begins in a slot is of bytes, and sent within this many slots
 pub record IsSent (count n : ℕ) (unit : Unit) : Type 0 where
   pub bytes : IsBytePair unit.pair
   pub ended : unit.doubled ≡ true → n + 2 ≤ count
@@ -97,7 +97,7 @@ module _ (slots : Slots) (count : ℕ) where
 null_bytes : IsBytePair null_pair
 null_bytes = record { a = omega arith; b = omega arith }
 
--- a timeline of which all that begins is sent within so many slots
+-- a timeline of which all that begins is sent within this many slots
 module _ (count : ℕ) (t : Timeline) (sent : (n : ℕ) (unit : Unit) → t n ≡ Some unit → IsSent count n unit) where
   -- what is due comes from a doubled unit
   due_sent : (n : ℕ) (o : Option Unit) (pair : Pair) → t n ≡ o → repeat_of o ≡ Some pair → IsBytePair pair × (n + 2 ≤ count)
@@ -124,7 +124,7 @@ module _ (count : ℕ) (t : Timeline) (sent : (n : ℕ) (unit : Unit) → t n �
       at_slot None due (Some unit) at = subst IsBytePair (sym (rw (due, at) refl)) (sent n unit at).bytes
       at_slot None due None at = subst IsBytePair (sym (rw (due, at) refl)) null_bytes
 
-  -- and nothing is due behind them
+  -- and nothing is due after them
   pub none_due : repeat_at t count ≡ None
   none_due = behind count refl
     where

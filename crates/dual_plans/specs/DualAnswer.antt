@@ -53,7 +53,7 @@ pub record IsPlanned (one two : Listing) (plan : Plan) (lanes : SecondLanes) : T
   pub gives : GivesOverlaid GivesFrom LaysBoth (dual_columns one two placed) 0 plan lanes
   pub left : frames_left plan ≡ one.frames
 
--- why two lists have no plan together, each refusal where none before it is; want of memory may come in the place of any
+-- why two lists have no plan together, each refusal where none before it is; 'out of memory' may be answered in place of any
 abbrev pub IsDualFault : Listing → Listing → DualFault → Type 0
 IsDualFault one two (Memory error) = ⊤
 IsDualFault one two (OtherList rec field) = IsJudged one two (Some (record { rec = rec; field = field }))

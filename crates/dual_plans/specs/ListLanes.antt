@@ -30,7 +30,7 @@ pub record IsWritableLane (lane : ListLane) : Type 0 where
   pub parts : AreWritable lane.parts.items
   pub events : All (λ event. IsWritable (code_of event.pair)) lane.events.items
 
--- its units can be placed, and must have ended in so many slots
+-- its units can be placed, and must have ended in this many slots
 pub record HasUnitsWithin (count : ℕ) (lane : ListLane) : Type 0 where
   pub placeable : ArePlaceable lane.parts.items
   pub ends : All (EndsBy count) lane.parts.items

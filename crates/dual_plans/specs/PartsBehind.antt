@@ -1,5 +1,5 @@
 -- Between crates: the program's answer stands on none of these definitions.
--- The units of a cue one after another, behind its first one where that has stood.
+-- The units of a cue one after another, after its first one where that has stood.
 use Rattle.std.specs.Prelude.{is_some, unwrap_or, List, Option, Some, None, map}
 use Rattle.line21_author.specs.declared.unit.Unit.{Unit}
 use Rattle.lanes.specs.declared.chunk.FieldChunk.{FieldChunk}

@@ -19,7 +19,7 @@ pub struct CueEvent {
 }
 
 impl CueEvent {
-    /// The first slot behind the event, which holds two.
+    /// The first slot after the event, which holds two.
     pub fn end(self) -> u64
         ensures { result ≡ self.slot + 2 }
     {
@@ -49,7 +49,7 @@ pub fn cue_events(
     Ok(events)
 }
 
-// Appends the events of the cue of this number, behind which the list has these cues.
+// Appends the events of the cue of this number, after which the list has these cues.
 fn push_cue(
     events: &mut Vec<CueEvent>,
     channel: Chan,

@@ -23,7 +23,7 @@ pub struct StartedField {
 }
 
 /// Places the units of the first list in the field of a channel, beside the events of the second. The answer is the earliest
-/// placement, or the first cue that has no room, or want of memory.
+/// placement, or the first cue that has no room, or out of memory.
 pub fn first_field(
     alloc: Global,
     first: &CueList,

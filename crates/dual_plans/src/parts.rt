@@ -65,7 +65,7 @@ fn push_cue(
     Ok(())
 }
 
-// A unit behind the first one of its cue, or that one itself.
+// A unit after the first one of its cue, or that one itself.
 fn part_behind(first: Option<Unit>, chunk: FieldChunk) -> Part
     ensures { result ≡ part_behind first chunk }
 {

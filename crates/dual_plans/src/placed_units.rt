@@ -23,7 +23,7 @@ pub fn units_in(
     Ok(units)
 }
 
-// Appends a unit in its place, behind the first one of its cue where that comes again.
+// Appends a unit in its place, after the first one of its cue where that comes again.
 fn push_unit(units: &mut Vec<PlacedUnit>, part: Part, place: Place) -> Result<(), AllocError>
     ensures { OnOk result (units.new.items
         ≡ units.old.items ++ unit_in part place.slot place.resume) }

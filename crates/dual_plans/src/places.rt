@@ -10,8 +10,8 @@ use dual_fields::{Place, place_all, table, table_beside};
 use lanes::PlanFault;
 use std::alloc::Global;
 
-/// Places the units of the first lane in a field of so many slots, beside the events of the second. The answer is the earliest
-/// placement, or the first cue that has no room, or want of memory.
+/// Places the units of the first lane in a field of this many slots, beside the events of the second. The answer is the earliest
+/// placement, or the first cue that has no room, or out of memory.
 pub fn first_places(
     alloc: Global,
     count: usize,
@@ -33,7 +33,7 @@ pub fn first_places(
     }
 }
 
-/// Places the units of the second lane in a field of so many slots, beside the events of the first and its spans, where its units
+/// Places the units of the second lane in a field of this many slots, beside the events of the first and its spans, where its units
 /// stand in these places. The answer is as for the first.
 pub fn second_places(
     alloc: Global,

@@ -41,9 +41,9 @@ pub enum Kind45 {
     BufferFull(u8),
     /// What this channel or service shows isn't what was authored.
     GridDiffers(Which),
-    /// The frame has more than one valid field 1 triplet: so many, at least 2, where 1 is wanted (CTA-708-E, cc_data()).
+    /// The frame has more than one valid field 1 triplet: this many, at least 2, where 1 is wanted (CTA-708-E, cc_data()).
     TwoPairs(u16),
-    /// Behind so many frames an ancillary packet that isn't of captions has a user word that isn't an 8-bit word with its parity bits
+    /// After this many frames an ancillary packet that isn't of captions has a user word that isn't an 8-bit word with its parity bits
     /// (SMPTE ST 291-1), so an MCC file can't carry it.
     EightBits,
 }

@@ -8,13 +8,13 @@ use crate::finding::Which;
 pub enum MisfitKind {
     /// Its rate is another one, of this code, 1 to 8 (SMPTE ST 334-2, cdp_frame_rate).
     Rate(u8),
-    /// It hasn't 20 triplets, but so many (CTA-708-E, cc_data()).
+    /// It hasn't 20 triplets, but this many (CTA-708-E, cc_data()).
     Count(u16),
-    /// It has more than one valid field 1 triplet: so many.
+    /// It has more than one valid field 1 triplet: this many.
     One(u16),
-    /// It has more than one valid field 2 triplet: so many.
+    /// It has more than one valid field 2 triplet: this many.
     Two(u16),
-    /// It has more than 18 valid triplets of channel packets: so many.
+    /// It has more than 18 valid triplets of channel packets: this many.
     Many(u16),
     /// This channel or service would show something else.
     Changed(Which),

@@ -12,7 +12,7 @@ use cue_lists::print;
 use std::alloc::Global;
 
 /// Reads a cue list, tries its form and its rules, shows each cue in the first frame from its SHOW on in which it may be, and puts
-/// the list as it is written. NoRoom names the first cue for which none of the frames from its SHOW on will do, at most so many after it,
+/// the list as it is written. NoRoom names the first cue for which none of the frames from its SHOW on will do, at most this many after it,
 /// 0 to 1,000.
 pub fn run_fit<M: Source, O: Sink>(alloc: Global, late: u32, input: &mut M, out: &mut O) -> Status
     requires { late ≤ most_late }

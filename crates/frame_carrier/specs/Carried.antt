@@ -41,7 +41,7 @@ pub record IsCarriedInRoom (rate : Rate) (bytes : FrameBytes) (packet : List Tri
   pub pairs : (in_field : FieldNumber) → field_pairs in_field (packet_triplets frame) ≡ option_to_list (pair_in in_field bytes)
   pub service : channel_triplets (packet_triplets frame) ≡ packet
 
--- so many frames of columns are carried
+-- this many frames of columns are carried
 pub record AreCarried (rate : Rate) (columns : Columns) (n : ℕ) : Type 0 where
   pub file : IsFileOf (column_packets rate columns 0 n) (column_bytes rate columns 0 n)
   pub room : (frame : ℕ) → IsCarriedInRoom rate (columns frame) (channel_packet_of columns frame) (frame_packet rate frame (columns frame) (channel_packet_of columns frame))

@@ -26,7 +26,7 @@ frame_packet rate frame bytes packet = triplets_packet rate frame (frame_triplet
 abbrev pub frame_bytes : Rate → ℕ → FrameBytes → List Triplet → List ℕ
 frame_bytes rate frame bytes packet = carried_words (frame_packet rate frame bytes packet)
 
--- the triplets of a frame's caption channel packet, behind so many packets; none where the frame has no service blocks
+-- the triplets of a frame's caption channel packet, after this many packets; none where the frame has no service blocks
 abbrev pub channel_packet : ℕ → List ℕ → List Triplet
 channel_packet count [] = []
 channel_packet count (byte ∷ blocks) = packet_written (count % 4) (byte ∷ blocks)
@@ -45,7 +45,7 @@ packets_before columns (suc n) = packets_before columns n + packet_count (column
 abbrev pub channel_packet_of : Columns → ℕ → List Triplet
 channel_packet_of columns frame = channel_packet (packets_before columns frame) (columns frame).blocks.items
 
--- the distribution packets of so many frames of columns, from a frame on
+-- the distribution packets of this many frames of columns, from a frame on
 abbrev pub column_packets : Rate → Columns → ℕ → ℕ → List Frame
 column_packets rate columns frame zero = []
 column_packets rate columns frame (suc n) =
@@ -57,7 +57,7 @@ column_bytes rate columns frame zero = []
 column_bytes rate columns frame (suc n) =
     frame_bytes rate frame (columns frame) (channel_packet_of columns frame) ++ column_bytes rate columns (suc frame) n
 
--- the carrier is for this rate, this frame is its next, and it has carried so many channel packets
+-- the carrier is for this rate, this frame is its next, and it has carried this many channel packets
 pub record IsAt (rate : Rate) (frame count : ℕ) (carrier : Carrier) : Type 0 where
   pub rate_is : carrier.rate ≡ rate
   pub counter_is : carrier.counter ≡ counter_of frame

@@ -27,7 +27,7 @@ pub events_apart : (list : Listing) → IsRuled list → (channel : Chan) → Ar
 events_apart list ruled channel =
     events_of_apart (field_of_channel channel) (slots_in_list list channel) (cues_on channel (slot_cues list channel)) (slot_sequence list ruled channel)
 
--- the event has ended when so many slots have
+-- the event has ended when this many slots have
 abbrev pub HasEnded : ℕ → Event → Type 0
 HasEnded frames event = event.slot + 2 ≤ frames
 

@@ -33,7 +33,7 @@ given_is c one f at =
     by_test true = refl
     by_test false = refl
 
--- behind the frame it is at the first slot that isn't before the next
+-- after the frame it is at the first slot that isn't before the next
 pub behind_at : (c : Cadence) (one : PlannedField) (f : ℕ) → one.slot ≡ slot_from c f → (behind_frame c f one).slot ≡ slot_from c (f + 1)
 behind_at c one f at = by_test (has_slot_in c f) refl
   where
@@ -212,7 +212,7 @@ module _ (c : Cadence) (f : ℕ) (lanes mid : List PlannedField) (left : ℕ) (a
       let low : left + two.1.slot < 2 ^ 32 = w.1 in
       subst (λ (p : PlannedField). p.slot + 1 < 2 ^ 32) same (omega arith)
 
-  -- and behind them
+  -- and after them
   pub both_left : (d : Cadence) (new : List PlannedField) (b : Option Pair) → Steps d f mid 1 b new → All (Within (left - 1)) new
   both_left d new b second =
       let two = two_of lanes long in

@@ -1,4 +1,4 @@
--- Whether a list's units have a placement can be told: each unit in turn is tried in one slot after another behind the
+-- Whether a list's units have a placement can be told: each unit in turn is tried in one slot after another after the
 -- units before it, until it would end too late.
 use Rattle.std.proofs.Common.{◌≡◌, ◌∙◌, ap, refl, Option, Some, None, ℕ, zero, suc, ◌+◌, ◌<◌, ◌≤◌, ◌⊎◌, List, [], ◌∷◌, ◌++◌, length, get_or, take, sym, subst, arith, inl, inr, min}
 use Rattle.std.proofs.lemmas.Bool.{cases_eq, cases_lt}
@@ -171,7 +171,7 @@ channel_decided l channel =
     room_decided field_chunk_cue (field_lane (channel_events channel (slot_cues l channel))) (fits_earlier (channel_events channel (slot_cues l channel))) (first_decided (channel_events channel (slot_cues l channel)))
     (channel_chunks channel (slot_cues l channel)) (channel_in_order channel (slot_cues l channel))
 
--- whether no placed unit stands behind the frame
+-- whether no placed unit follows the frame
 up_to_decided : (frame : ℕ) (before : List (ServiceChunk × ℕ)) → Decided (AreUpTo frame before)
 up_to_decided frame [] = inl tt
 up_to_decided frame (p ∷ ps) =

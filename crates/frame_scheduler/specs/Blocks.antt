@@ -21,7 +21,7 @@ blocks_of planned frame = flat_map (lane_block frame) planned
 abbrev pub next_blocks : List PlannedService → List ℕ
 next_blocks planned = flat_map (λ one. lane_block one.frame one) planned
 
--- a lane behind the frame whose bytes come next
+-- a lane after the frame whose bytes come next
 abbrev pub moved_on : PlannedService → PlannedService
 moved_on planned = record planned { frame = planned.frame + 1 }
 

@@ -24,7 +24,7 @@ silent_frame rate frame = record {
   blocks = record { items = [] };
 }
 
--- behind the frames of a list that keeps the rules there is none with captions
+-- after the frames of a list that keeps the rules there is none with captions
 abbrev pub NothingBehindTheEnd : Type 0
 NothingBehindTheEnd = (list : Listing) (placed : Placement) → IsFormed list → IsRuled list → IsListPlaced list placed
     → (frame : ℕ) → list.frames ≤ frame → columns_of list placed frame ≡ silent_frame list.rate frame

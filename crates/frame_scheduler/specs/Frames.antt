@@ -41,7 +41,7 @@ AreFieldsPlanned list one two =
     IsFieldPlan (channel_events Cc1 (slot_cues list Cc1)) (channel_chunks Cc1 (slot_cues list Cc1)) one
     × IsFieldPlan (channel_events Cc3 (slot_cues list Cc3)) (channel_chunks Cc3 (slot_cues list Cc3)) two
 
--- planning gives the frames of the list's earliest placement, or the first cue without one; want of memory may come in
+-- planning gives the frames of the list's earliest placement, or the first cue without one; 'out of memory' may come in
 -- their place
 abbrev pub PlanAnswer : Listing → Result Plan PlanFault → Type 0
 PlanAnswer list (Ok plan) =

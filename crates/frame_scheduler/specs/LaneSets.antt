@@ -29,7 +29,7 @@ abbrev pub IsFaultIn : (Lane → Type 0) → Listing → PlanFault → Type 0
 IsFaultIn IsOne list (Memory error) = ⊤
 IsFaultIn IsOne list (NoRoom cue) = IsFirstIn IsOne list cue
 
--- of the faults of two lanes that of the earlier cue, or want of memory
+-- of the faults of two lanes that of the earlier cue, or out of memory
 abbrev pub earlier_fault : PlanFault → PlanFault → PlanFault
 earlier_fault (NoRoom one) (NoRoom two) = NoRoom (min one two)
 earlier_fault (NoRoom one) (Memory error) = Memory error

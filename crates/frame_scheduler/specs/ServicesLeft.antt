@@ -8,6 +8,6 @@ pub record IsNumbered (planned : PlannedService) : Type 0 where
   pub least : 1 ≤ planned.service
   pub most : planned.service ≤ 6
 
--- so many frames are left for it
+-- this many frames are left for it
 abbrev pub HasLeft : ℕ → PlannedService → Type 0
 HasLeft left planned = left + planned.frame < 2 ^ 32

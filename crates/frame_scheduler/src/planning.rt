@@ -136,7 +136,7 @@ pub fn fault_beside(one: PlanFault, two: Option<PlanFault>) -> PlanFault
     }
 }
 
-/// Of the faults of two lanes, that of the earlier cue; or want of memory, where a lane has that.
+/// Of the faults of two lanes, that of the earlier cue; or out of memory, where a lane has that.
 fn earlier_fault(one: PlanFault, two: PlanFault) -> PlanFault
     ensures { result ≡ earlier_fault one two }
 {

@@ -28,7 +28,7 @@ one_row_more f a n k m is next =
     ap (λ k. flat_map f (range_with_len a n) ++ f k) (sym is) ∙ ap (λ ys. flat_map f (range_with_len a n) ++ ys) (sym (append-nil (f (a + n))))
     ∙ sym (flat_map-append f (range_with_len a n) ((a + n) ∷ [])) ∙ ap (flat_map f) (sym (range_push a n)) ∙ ap (λ m. flat_map f (range_with_len a m)) next
 
--- and so many more of which nothing comes
+-- and this many more of which nothing comes
 pub nothing_more : {X : Type 0} (f : ℕ → List X) (a n m : ℕ) → ((k : ℕ) → a + n ≤ k → f k ≡ []) → flat_map f (range_with_len a n) ≡ flat_map f (range_with_len a (n + m))
 nothing_more f a n zero none = rw add-zero refl
 nothing_more f a n (suc m) none =

@@ -16,7 +16,7 @@ pub record IsWriting {C : Type 0} (w : Writing C) : Type 0 where
   pub itself : (a : C) → w.alike a a ≡ true
   pub after : (a b c : C) → w.alike a b ≡ true → w.alike c b ≡ true → w.alike a c ≡ true
 
--- the lists of the rows of places, of so many columns, so many from one on
+-- the lists of the rows of places, of this many columns, this many from one on
 pub record AreRows {C : Type 0} (p : Places C) (cells : ℕ → List (Option C)) (start count cols : ℕ) : Type 0 where
   pub long : (row : ℕ) → length (cells row) ≡ cols
   pub cell : (row col : ℕ) → col < cols → get_or (cells row) col None ≡ p.cell row col
@@ -203,7 +203,7 @@ in_a_run w laws p cells start count cols rows row col (Some cell) inside is some
     (among_cols w row (cells row) 0 (length (cells row)) found.begin run (omega arith) (omega (arith, within)) (ap (option_map (run_from w row (cells row) found.begin)) found.starts)) in
     (run, among, record { in_row = refl; from = found.from; to = found.to })
 
--- runs in order, and more behind them
+-- runs in order, and more after them
 AreInOrder-append : {C : Type 0} (xs ys : List (Run C)) → AreInOrder xs → AreInOrder ys → All (λ x. All (IsBefore x) ys) xs → AreInOrder (xs ++ ys)
 AreInOrder-append [] ys first next before = next
 AreInOrder-append (x ∷ xs) ys (here, first) next before =

@@ -1,4 +1,4 @@
--- The front of a row that is written as its first cell: its characters are those of the cells there, and behind it stands no cell
+-- The front of a row that is written as its first cell: its characters are those of the cells there, and after it stands no cell
 -- that is written alike.
 use Rattle.std.proofs.Common.{◌≡◌, ℕ, zero, suc, ◌+◌, ◌<◌, ◌++◌, true, false, List, [], ◌∷◌, Option, Some, None, drop, encode_utf8_all, get_or, length, take, refl, sym, ap, ◌∙◌, add_comm, add-one, arith, inl, inr}
 use Rattle.std.proofs.lemmas.Bool.{cases_Bool}
@@ -28,7 +28,7 @@ pub front_stop : {C : Type 0} (w : Writing C) (first : C) (cells : List (Option 
     → front_text w first (drop i cells) ≡ []
 front_stop w first cells i within other = at_drop_more (front_text w first) cells i None within ∙ front_other w first (get_or cells i None) (drop (i + 1) cells) other
 
--- and goes on with one
+-- and continues with one
 pub front_more : {C : Type 0} (w : Writing C) (first : C) (cells : List (Option C)) (i : ℕ) (cell : C) → i < length cells → get_or cells i None ≡ Some cell
     → w.alike first cell ≡ true → front_text w first (drop i cells) ≡ w.ch cell ∷ front_text w first (drop (i + 1) cells)
 front_more w first cells i cell within is same =
@@ -61,7 +61,7 @@ front_cells w first (Some cell ∷ cells) (suc k) within =
       | inr other ↦ absurd (omega (arith, within, ap (λ (text : List ℕ). length text) (front_other w first (Some cell) cells other)))
     ]
 
--- behind the front stands no cell that is written alike
+-- after the front stands no cell that is written alike
 pub front_ends : {C : Type 0} (w : Writing C) (first : C) (cells : List (Option C)) → is_alike w first (get_or cells (length (front_text w first cells)) None) ≡ false
 front_ends w first [] = refl
 front_ends w first (None ∷ cells) = refl

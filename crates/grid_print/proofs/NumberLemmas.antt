@@ -37,7 +37,7 @@ pub any_none : (a n : ℕ) → list_any (λ (k : ℕ). false) (range_with_len a 
 any_none a zero = refl
 any_none a (suc n) = any_none (a + 1) n
 
--- numbers counted from the one behind
+-- numbers counted from the one after
 pub texts_shift : {X : Type 0} (f : ℕ → List X) (a n : ℕ) → flat_map (λ k. f (k + 1)) (range_with_len a n) ≡ flat_map f (range_with_len (a + 1) n)
 texts_shift f a zero = refl
 texts_shift f a (suc n) = ap (λ ys. f (a + 1) ++ ys) (texts_shift f (a + 1) n)

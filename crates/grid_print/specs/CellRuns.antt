@@ -44,6 +44,6 @@ run_at w row cells col = option_map (run_from w row cells col) (begun w (left_of
 unfoldable pub row_runs : {C : Type 0} → Writing C → ℕ → List (Option C) → List (Run C)
 row_runs w row cells = filter_map (run_at w row cells) (range_with_len 0 (length cells))
 
--- the runs of so many rows from one on, where `cells` are those of a row
+-- the runs of this many rows from one on, where `cells` are those of a row
 abbrev pub rows_runs : {C : Type 0} → Writing C → (ℕ → List (Option C)) → ℕ → ℕ → List (Run C)
 rows_runs w cells start count = flat_map (λ row. row_runs w row (cells row)) (range_with_len start count)

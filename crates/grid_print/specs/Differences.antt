@@ -16,7 +16,7 @@ same_window_cell None None = true
 same_window_cell (Some a) (Some b) = a.ch == b.ch && written_alike a b
 same_window_cell _ _ = false
 
--- the same cell stands at each place of so many rows and columns
+-- the same cell stands at each place of this many rows and columns
 abbrev pub same_cells : ℕ → ℕ → Cells → Cells → Bool
 same_cells rows cols a b = list_all (λ row. list_all (λ col. same_window_cell (a row col) (b row col)) (range_with_len 0 cols)) (range_with_len 0 rows)
 

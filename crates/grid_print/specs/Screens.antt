@@ -1,5 +1,5 @@
 -- Believed: the library's answers stand on these definitions.
--- What a viewer sees behind frames: the grid of each channel of line 21, and the windows of each service of DTVCC (CTA-608-E; CTA-708-E).
+-- What a viewer sees after frames: the grid of each channel of line 21, and the windows of each service of DTVCC (CTA-608-E; CTA-708-E).
 use Rattle.std.specs.Prelude.{◌≡◌, ◌<◌, ℕ, List, Option}
 use Rattle.cdp_packets.specs.Packets.{Frame}
 use Rattle.cc_receiver.specs.ReceivedServices.{received_windows}

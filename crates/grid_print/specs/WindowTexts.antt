@@ -17,7 +17,7 @@ use Rattle.grid_print.specs.WindowRuns.{window_runs}
 abbrev pub spaced : ℕ → List ℕ
 spaced number = codes " " ++ decimal number
 
--- numbers, each behind a space
+-- numbers, each after a space
 abbrev pub all_spaced : List ℕ → List ℕ
 all_spaced numbers = flat_map spaced numbers
 

@@ -45,7 +45,7 @@ impl Shown {
     ghost use Rattle.grid_print.specs.Shown.{last_grid, last_shown};
     ghost use Rattle.grid_print.specs.Screens.{HaveSameWindows, LookAlike, IsBehind, received_screens, screens_of};
 
-    /// Nothing was shown: all grids are empty, and no window is shown. The error comes where memory for them isn't found.
+    /// Nothing was shown: all grids are empty, and no window is shown. The error comes if memory for them isn't found.
     pub fn new(alloc: Global) -> Result<Shown, AllocError>
         ensures grids { IfOk result (λ made. (last_shown made).grids ≡ (λ chan. empty_grid)) }
         ensures windows { IfOk result

@@ -147,7 +147,7 @@ fn write_colors<O: Sink>(c: PenColors, text: &mut Gathered, out: &mut O)
     text.write(b" ", out);
 }
 
-// Writes numbers, each behind a space.
+// Writes numbers, each after a space.
 fn write_spaced<O: Sink>(numbers: &[u8], text: &mut Gathered, out: &mut O)
     ensures { Adds O.written O.faults text.old out.old text.new out.new (all_spaced numbers.now) }
 {

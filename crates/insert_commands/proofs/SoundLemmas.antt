@@ -51,7 +51,7 @@ use Rattle.insert_commands.proofs.AlikeLemmas.{can_be_carried, say_alike}
 use Rattle.insert_commands.proofs.FileLemmas.{new_words}
 use Rattle.insert_commands.proofs.PaddedLemmas.{padded_below, padded_blocks, padded_carried, padded_past, padded_roomy, padded_silent}
 
--- so many frames of frames that are alike are alike
+-- this many frames of frames that are alike are alike
 fronts_alike : (k : ℕ) (frames others : List Frame) → CarryTheSame frames others → CarryTheSame (take k frames) (take k others)
 fronts_alike k frames others alike = record {
   rates = sym (take-map (λ (f : Frame). f.rate) k frames) ∙ ap (take k) alike.rates ∙ take-map (λ (f : Frame). f.rate) k others;
@@ -88,7 +88,7 @@ module _ (list : Listing) (placed : Placement) (formed : IsFormed list) (ruled :
   abbrev services : AreServicesPlaced list placed
   services = λ service. placing (Service service)
 
-  -- behind the end of a list its own frames carry nothing either
+  -- after the end of a list its own frames carry nothing either
   same_frame : (frame : ℕ) → padded (list_framing list placed) frame ≡ columns_of list placed frame
   same_frame frame = at (nat_lt frame list.frames) refl
     where
@@ -114,7 +114,7 @@ module _ (list : Listing) (placed : Placement) (formed : IsFormed list) (ruled :
       ∷ column_packets list.rate (padded (list_framing list placed)) (suc frame) n) (same_frame frame)
       ∙ ap (λ rest. frame_packet list.rate frame (columns_of list placed frame) (channel_packet_of (columns_of list placed) frame) ∷ rest) (same_packets (suc frame) n)
 
-  -- a service is told what its lane sends
+  -- a service gets what its lane sends
   lane_leads : (n service k : ℕ) → k ≤ n
       → service_events service (take k (column_packets list.rate (columns_of list placed) 0 n))
       ≡ told list.rate (lane_frame_bytes (list_lane list service (placed (Service service)))) k
@@ -124,7 +124,7 @@ module _ (list : Listing) (placed : Placement) (formed : IsFormed list) (ruled :
       (lane_sent list placed formed ruled services service) k
       ∙ lane_told list placed service k
 
-  -- it is told no more than its share in a frame of the list
+  -- it gets no more than its share in a frame of the list
   same_fronts : (n k : ℕ) → k ≤ n → k ≤ list.frames
       → take k (column_packets list.rate (columns_of list placed) 0 n) ≡ take k (column_packets list.rate (columns_of list placed) 0 list.frames)
   same_fronts n k most own =
@@ -142,7 +142,7 @@ module _ (list : Listing) (placed : Placement) (formed : IsFormed list) (ruled :
         within = kept.within;
       }
 
-  -- and nothing behind its end
+  -- and nothing after its end
   sent_in : ℕ → ℕ → List ℕ
   sent_in service frame = sent_to service (padded_blocks (list_framing list placed) (has_blocks list placed formed ruled services) frame).sent
 

@@ -46,7 +46,7 @@ use Rattle.words_reading.specs.declared.packets.Packets.{Packets}
 pub same_rate : (r s : Rate) → rate_code r ≡ rate_code s → r ≡ s
 same_rate r s same = cc (rate_of-code r, rate_of-code s, ap rate_of same)
 
--- what is judged of a file, and of the bytes of the packet that is open behind it
+-- what is judged of a file, and of the bytes of the packet that is open after it
 pub judged_so : (list : Framing) (frames : List Frame) (file text bytes : List ℕ) (inserting : Inserting) → bytes ≡ file ++ open_bytes inserting.packets
     → HasRead frames file inserting.packets → GivesCaptions list (length frames) inserting.captions → AreInserted (captions_of list) frames file text
     → HaveRate list.rate frames → HasJudged list bytes text inserting

@@ -36,7 +36,7 @@ pub record HasLastFrame (receiver : Receiver) : Type 0 where
   pub sections : AreSections last.sections
   pub short : length (concat last.sections) ≤ 244
 
--- what stands for the packet of a frame that comes behind others, or why the run stops at it
+-- what stands for the packet of a frame that follows others, or why the run stops at it
 abbrev pub Replaces : Framing → List Frame → Frame → Captions Plan → List ℕ → Result (Unit {0}) Halt → Type 0
 Replaces list earlier last captions words (Ok done) =
     (last.rate ≡ list.rate) × GivesCaptions list (length earlier + 1) captions

@@ -28,7 +28,7 @@ pub record SaysInserted (list : Framing) (bytes text : List ℕ) : Type 0 where
   pub inserted : AreInserted (captions_of list) frames frames_are.file text
   pub rates : HaveRate list.rate frames
 
--- why an insertion stops at a frame that comes behind others: it has another rate than the list; or it has the list's, and its packet would
+-- why an insertion stops at a frame that follows others: it has another rate than the list; or it has the list's, and its packet would
 -- have more than 255 bytes with the list's captions
 abbrev pub IsHalt : Framing → Halt → List Frame → Frame → Type 0
 IsHalt list (halt.Found finding) frames last =

@@ -9,7 +9,7 @@ use Rattle.cdp_packets.specs.Packets.{Frame, IsCdp}
 use Rattle.packet_inserter.specs.Insertion.{IsInserted, packet_length}
 use Rattle.words_files.specs.CarriedWords.{carried_words}
 
--- a packet behind a file is one of captions that carries this frame
+-- a packet after a file is one of captions that carries this frame
 pub record BringsFrame (frame : Frame) (bytes : List ℕ) : Type 0 where
   pub packet : AncillaryPacket
   pub is : IsPacketBytes packet bytes
@@ -22,7 +22,7 @@ pub record IsForeign (bytes : List ℕ) : Type 0 where
   pub is : IsPacketBytes packet bytes
   pub is_foreign : IsCaption packet → ⊥
 
--- what becomes of a file of these frames, where the captions of each frame are these: packet behind packet
+-- what becomes of a file of these frames, where the captions of each frame are these: packet after packet
 pub data AreInserted : (ℕ → List Triplet) → List Frame → List ℕ → List ℕ → Type 0 where
   nothing : (captions : ℕ → List Triplet) → AreInserted captions [] [] []
   foreign : (captions : ℕ → List Triplet) (frames : List Frame) (file text bytes whole out : List ℕ) → AreInserted captions frames file text → IsForeign bytes

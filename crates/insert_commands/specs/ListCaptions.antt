@@ -10,7 +10,7 @@ use Rattle.cue_list_commands.specs.Framing.{Framing}
 use Rattle.insert_commands.specs.Captions.{padded}
 use Rattle.insert_commands.specs.declared.captions.Captions.{Captions}
 
--- these are the bytes of this frame, and those that are left give the frames behind it
+-- these are the bytes of this frame, and those that are left give the frames after it
 pub record IsAhead {F : Type 0} (left : F → ℕ) (Gives : Columns → ℕ → F → Type 0) (list : Framing) (frame : ℕ) (bytes : FrameBytes) (frames : F) : Type 0 where
   pub within : frame < list.count
   pub is : bytes ≡ list.columns frame

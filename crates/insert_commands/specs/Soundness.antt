@@ -31,8 +31,8 @@ pub data HaveCaptions : (ℕ → List Triplet) → List Frame → List Frame →
 
 -- what holds of a text that was put of these frames with a list's captions: it is a words file of as many frames, each with its
 -- captions, which carry a whole caption channel; those of the list have the rates and triplets of the frames that `build` makes of
--- it; no byte fills the buffer of a service, and none is told more than its share in a frame; and a receiver that takes the text and
--- was reset before the first frame shows the list at every frame, behind the list's end too: the authored grids wherever the frame is
+-- it; no byte fills the buffer of a service, and none gets more than its share in a frame; and a receiver that takes the text and
+-- was reset before the first frame shows the list at every frame, after the list's end too: the authored grids wherever the frame is
 -- settled, and the authored windows
 pub record IsSoundInsertion (list : Listing) (placed : Placement) (frames : List Frame) (text : List ℕ) : Type 0 where
   pub news : List Frame

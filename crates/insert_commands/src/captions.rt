@@ -12,9 +12,9 @@ use cue_list_commands::{Carrier, FrameBytes, Frames, Programme};
 #[derive(Drop)]
 pub struct Captions<F> {
     rate: Rate,
-    // The next frame; None behind the programme's end.
+    // The next frame; None after the programme's end.
     ahead: Option<FrameBytes>,
-    // Those behind it.
+    // Those after it.
     frames: F,
     carrier: Carrier,
 }

@@ -153,7 +153,7 @@ win_cue service w cue formed is on = at cue.hide refl (subst (λ k. IsOfKind k c
     at (Some hide) some kind = (hide, record { kind_is = is; of_it = eqb-true w.service service on; window = kind.0; hide_is = some })
 
 module _ (l : Listing) (service : ℕ) where
-  -- the captions behind one follow it
+  -- the captions after one follow it
   all_follow : (hide : ℕ) (v : WinCue) (former : Cue) → IsWinCue service v hide former → (cues : List Cue) → All IsCueFormed cues
       → AllByRecursion (KeepsClear l.rate former) (cues_of_service service cues)
       → AllByRecursion (Follows (window_caption l.rate v former)) (service_captions l.rate service cues)

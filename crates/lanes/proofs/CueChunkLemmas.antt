@@ -8,7 +8,7 @@ use Rattle.lanes.specs.ServicePlacing.{AreOfCue, IsOfCue}
 use Rattle.lanes.specs.Chunks.{ServiceChunk}
 use Rattle.lanes.specs.declared.cue_load.CueLoad.{CueLoad}
 
--- one more cue has the units behind those of the others
+-- one more cue has the units after those of the others
 pub counted_push : (cues : List CueLoad) (cue : CueLoad) (units more : List (List ℕ)) → AreCounted cues units → cue.count ≡ length more
     → AreCounted (cues ++ cue ∷ []) (units ++ more)
 counted_push [] cue units more counted count =
@@ -50,12 +50,12 @@ chunks_bytes (cue ∷ cues) units counted =
     ∙ sym (concat_append (take cue.count units) (drop cue.count units))
     ∙ ap concat (take-append-drop cue.count units)
 
--- the units behind so many are those of the cues behind so many
+-- the units after this many are those of the cues after this many
 pub record AreLeft (cues : List CueLoad) (units : List (List ℕ)) (chunks : List ServiceChunk) (index from : ℕ) : Type 0 where
   pub are : drop from chunks ≡ chunks_of (drop index cues) (drop from units)
   pub counted : AreCounted (drop index cues) (drop from units)
 
--- the next cue has the next units, and the cues behind it have the rest
+-- the next cue has the next units, and the cues after it have the rest
 pub record TakesNext (cues : List CueLoad) (units : List (List ℕ)) (chunks : List ServiceChunk) (index from : ℕ) (cue : CueLoad) : Type 0 where
   pub within : from + cue.count ≤ length units
   pub of_it : AreOfCue cue units chunks from
@@ -117,7 +117,7 @@ takes_next cues units chunks index from cue low there is left = record {
           ∙ ap (chunk_in cue) (get_or-take cue.count (drop from units) j [] low ∙ get_or-drop from units j [] ∙ ap (λ n. get_or units n []) sum);
     }
 
--- behind all cues no unit is left
+-- after all cues no unit is left
 pub none_left : (cues : List CueLoad) (units : List (List ℕ)) (chunks : List ServiceChunk) (index from : ℕ) → length cues ≤ index
     → AreLeft cues units chunks index from → length chunks ≤ from
 none_left cues units chunks index from end left =

@@ -52,7 +52,7 @@ at_first_unit u us n here = let test : eqb n u.slot ≡ true = grind (arith, nat
 passed_unit : (u : PlacedUnit) (us : List PlacedUnit) (n : ℕ) → u.slot ≢ n → unit_at (u ∷ us) n ≡ unit_at us n
 passed_unit u us n apart = let test : eqb n u.slot ≡ false = grind (arith, nat_tests) in rw test refl
 
--- where no event begins at their first slot, they begin behind it
+-- where no event begins at their first slot, they begin after it
 events_behind : (es : List Event) (n : ℕ) → AreFrom n es → AreApart es → event_at es n ≡ None → AreFrom (n + 1) es
 events_behind es n from apart none = from_first (n + 1) es apart (behind es from none)
   where
@@ -85,7 +85,7 @@ slot_is : (t : Timeline) (n : ℕ) (r : Option Pair) (u : Option Unit) → repea
 slot_is t n r u due is = ap (λ x. unwrap_or (option_or x (option_map (λ (v : Unit). v.pair) (t n))) null_pair) due
     ∙ ap (λ x. unwrap_or (option_or r (option_map (λ (v : Unit). v.pair) x)) null_pair) is
 
--- what is due behind a slot
+-- what is due after a slot
 due_next : (t : Timeline) (n : ℕ) (u : Option Unit) → t n ≡ u → repeat_at t (n + 1) ≡ repeat_of u
 due_next t n u is = let e : n + 1 ≡ suc n = omega arith in rw e (ap repeat_of is)
 
@@ -215,7 +215,7 @@ module _ (t : Timeline) (events : List Event) (units : List PlacedUnit) (old mid
       (subst (λ r. IsAhead t (drop old.next_event events) (drop old.next_unit units) old.slot r) due ready)) in
       moved (record { slot = old.slot; next_unit = old.next_unit; next_event = old.next_event + 1; repeat = Some e.pair }) is (gives ∙ sym step.0, step.1) refl
 
-  -- the events to come are behind the slot where the next one isn't there
+  -- the events to come are after the slot where the next one isn't there
   no_event : ((e : Event) → IsNext events old.next_event e → e.slot ≡ old.slot → ⊥) → AreFrom (old.slot + 1) (drop old.next_event events)
   no_event none = from_first (old.slot + 1) (drop old.next_event events) ready.events_apart behind
     where

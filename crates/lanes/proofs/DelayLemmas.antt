@@ -59,7 +59,7 @@ delay_some r frames cs start end kept is =
     let some = delay_lasts r d.caption.tenths d.tenths in
     omega (arith, d.starts, d.ends, shown, some)
 
--- one of two captions is the other, or stands behind it
+-- one of two captions is the other, or follows it
 pub two_of : (r : Rate) (frames : ℕ) (cs : List Caption) (a b : Caption) → AreKept r frames cs → Has a cs → Has b cs
     → (a ≡ b) ⊎ (Follows a b ⊎ Follows b a)
 two_of r frames [] a b kept in_a in_b = absurd in_a

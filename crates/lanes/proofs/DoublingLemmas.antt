@@ -188,7 +188,7 @@ held_none events chunks fs n placed held = go (stands chunks fs n) refl
         let b = (unit_begins events [] chunks fs n u placed is).0 in
         absurd (held (b.allowed.free n (omega arith) (some_slot n b.chunk)))
 
--- what is due behind a frame comes from a doubled unit that begins there
+-- what is due after a frame comes from a doubled unit that begins there
 due_from : (o : Option Unit) (p : Pair) → repeat_of o ≡ Some p → (u : Unit) × (o ≡ Some u) × (u.doubled ≡ true)
 due_from None p is = cc
 due_from (Some u) p is = go u.doubled refl

@@ -11,16 +11,16 @@ use Rattle.lanes.specs.FirstFit.{EarliestIsFirstFit}
 use Rattle.lanes.proofs.FirstFitLemmas.{earliest_is_first_fit}
 use Rattle.lanes.proofs.PlacingLemmas.{one_more}
 
--- the end behind one more unit
+-- the end after one more unit
 pub end_push : (before : List (FieldChunk × ℕ)) (u : FieldChunk) (f : ℕ) → end_of (before ++ (u, f) ∷ []) ≡ f + slots_of u
 end_push before u f = fold-append _ _ before ((u, f) ∷ [])
 
--- what is allowed behind an end is allowed behind an earlier one
+-- what is allowed after an end is allowed after an earlier one
 pub allowed_earlier : (events : List Event) (d e : ℕ) (u : FieldChunk) (f : ℕ) → d ≤ e → IsAllowedInField events e u f → IsAllowedInField events d u f
 allowed_earlier events d e u f h a =
     record { behind = omega (arith, a.behind, h); loaded = a.loaded; ended = a.ended; free = a.free }
 
--- the end behind units that stand no later is no later
+-- the end after units that stand no later is no later
 ends_no_later : (us : List FieldChunk) (fs gs : List ℕ) (d e : ℕ) → d ≤ e → NoLater fs gs
     → fold (λ (end : ℕ) (placed : FieldChunk × ℕ). placed.1 + slots_of placed.0) d (zip us fs)
     ≤ fold (λ (end : ℕ) (placed : FieldChunk × ℕ). placed.1 + slots_of placed.0) e (zip us gs)
@@ -31,7 +31,7 @@ ends_no_later (u ∷ us) (f ∷ fs) [] d e h n = absurd n
 ends_no_later (u ∷ us) (f ∷ fs) (g ∷ gs) d e h n =
     ends_no_later us fs gs (f + slots_of u) (g + slots_of u) (let l : f ≤ g = n.0 in omega arith) n.1
 
--- what fits behind later units fits behind earlier ones
+-- what fits after later units fits after earlier ones
 pub fits_earlier : (events : List Event) → FitsEarlier (field_lane events)
 fits_earlier events us fs gs u g p q n a = allowed_earlier events _ _ u g (ends_no_later us fs gs 0 0 (omega arith) n) a
 

@@ -52,7 +52,7 @@ takes_rest front a b has =
     (le_test b (front.room - a) (let low = le_told (a + b) front.room parts.0 in omega (arith, low)))
     (left_rest front.budget a b parts.1)
 
--- units of so many bytes more are placed, up to so many units in all
+-- units of this many bytes more are placed, up to this many units in all
 abbrev pub filled : Placing → ℕ → ℕ → Placing
 filled placing size units = record {
   batches = placing.batches;

@@ -1,4 +1,4 @@
--- The earliest placement is the first fit, wherever what is allowed behind units is allowed behind them also where they
+-- The earliest placement is the first fit, wherever what is allowed after units is allowed after them also where they
 -- stand earlier.
 use Rattle.std.proofs.Common.{◌≡◌, ℕ, ◌<◌, ◌≤◌, List, [], ◌∷◌, ◌++◌, sym, subst, arith, append_assoc, append-nil, ⊎_elim}
 use Rattle.std.proofs.lemmas.Bool.{cases_lt}
@@ -9,12 +9,12 @@ use Rattle.lanes.specs.Placing.{IsPlaced, IsEarliest, NoLater}
 use Rattle.lanes.proofs.PlacingLemmas.{earliest_none, no_later_push, no_later_same, one_more, placed_push, zip_push}
 
 module _ {U : Type 0} (allowed : List (U × ℕ) → U → ℕ → Type 0) (fits : FitsEarlier allowed) where
-  -- a placement with one more unit behind units that it names
+  -- a placement with one more unit after units that it names
   behind_one : (us : List U) (fs : List ℕ) (u : U) (f : ℕ) (vs : List U) (gs : List ℕ) → IsPlaced allowed [] us fs
       → IsPlaced allowed (zip us fs ++ (u, f) ∷ []) vs gs → IsPlaced allowed (zip (us ++ u ∷ []) (fs ++ f ∷ [])) vs gs
   behind_one us fs u f vs gs placed rest = subst (λ before. IsPlaced allowed before vs gs) (sym (zip_push allowed [] us fs u f placed)) rest
 
-  -- units behind others stay where they are, where those stand no later
+  -- units after others stay where they are, where those stand no later
   rest_earlier : (us : List U) (fs gs : List ℕ) (vs : List U) (hs : List ℕ) → IsPlaced allowed [] us fs → IsPlaced allowed [] us gs → NoLater fs gs
       → IsPlaced allowed (zip us gs) vs hs → IsPlaced allowed (zip us fs) vs hs
   rest_earlier us fs gs [] [] p q low rest = tt
@@ -27,7 +27,7 @@ module _ {U : Type 0} (allowed : List (U × ℕ) → U → ℕ → Type 0) (fits
       (behind_one us gs v h vs hs q rest.1) in
       (here, subst (λ before. IsPlaced allowed before vs hs) (zip_push allowed [] us fs v h p) more)
 
-  -- the earliest of the placements behind the earliest of the units before is the first fit
+  -- the earliest of the placements after the earliest of the units before is the first fit
   first_fit_behind : (us : List U) (fs : List ℕ) (vs : List U) (gs : List ℕ) → IsEarliest allowed us fs → IsPlaced allowed (zip us fs) vs gs
       → ((hs : List ℕ) → IsPlaced allowed (zip us fs) vs hs → NoLater gs hs) → IsFirstFit allowed (zip us fs) vs gs
   first_fit_behind us fs [] [] earliest placed least = tt
@@ -44,7 +44,7 @@ module _ {U : Type 0} (allowed : List (U × ℕ) → U → ℕ → Type 0) (fits
       joined : zip (us ++ v ∷ []) (fs ++ g ∷ []) ≡ zip us fs ++ (v, g) ∷ []
       joined = zip_push allowed [] us fs v g earliest.placed
 
-      -- the rest stays where it is behind a unit that stands earlier
+      -- the rest stays where it is after a unit that stands earlier
       earlier : (h : ℕ) → h < g → allowed (zip us fs) v h → g ≤ h
       earlier h low here =
           let rest = rest_earlier (us ++ v ∷ []) (fs ++ h ∷ []) (fs ++ g ∷ []) vs gs
@@ -58,7 +58,7 @@ module _ {U : Type 0} (allowed : List (U × ℕ) → U → ℕ → Type 0) (fits
         first = λ h here. ⊎_elim (λ (low : h < g). earlier h low here) (λ (high : g ≤ h). high) (cases_lt h g);
       }
 
-  -- the first fit behind the earliest of the units before is the earliest of all
+  -- the first fit after the earliest of the units before is the earliest of all
   earliest_behind : (us : List U) (fs : List ℕ) (vs : List U) (gs : List ℕ) → IsEarliest allowed us fs → IsFirstFit allowed (zip us fs) vs gs
       → IsEarliest allowed (us ++ vs) (fs ++ gs)
   earliest_behind us fs [] [] earliest fit =

@@ -29,11 +29,11 @@ up_to_last : (frame : ℕ) (before : List (ServiceChunk × ℕ)) (u : ServiceChu
 up_to_last frame [] u f all = all.0
 up_to_last frame (p ∷ ps) u f all = up_to_last frame ps u f all.1
 
--- behind its last unit stands no frame before that unit's
+-- after its last unit stands no frame before that unit's
 pub last_is_first : (before : List (ServiceChunk × ℕ)) (u : ServiceChunk) (f : ℕ) → IsFirstBehind (before ++ (u, f) ∷ []) f
 last_is_first before u f other all = up_to_last other before u f all
 
--- units up to a frame have nothing behind it
+-- units up to a frame have nothing after it
 between_behind : (from to frame f : ℕ) → f ≤ frame → frame < from → is_between from to f ≡ false
 between_behind from to frame f low behind = grind (arith, nat_tests)
 
@@ -194,7 +194,7 @@ used_more from to before u f low high =
     let here : bytes_between from to (u, f) ≡ chunk_size u = let is = in_batch from to f low high in rw is refl in
     used_push from to before u f ∙ ap (λ n. used from to before + n) here
 
--- the front behind a unit that its frame takes
+-- the front after a unit that its frame takes
 pub front_push : (share : ℕ) (cs : List Caption) (before : List (ServiceChunk × ℕ)) (front : Front) (chunk : ServiceChunk) → IsFront share cs before front
     → takes front (chunk_size chunk) ≡ true → IsFront share cs (before ++ (chunk, front.frame) ∷ []) (behind_taking front (chunk_size chunk))
 front_push share cs before front chunk is taken =

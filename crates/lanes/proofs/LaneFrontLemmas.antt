@@ -1,4 +1,4 @@
--- The front of the units placed so far: passing an event, and what is free behind the last one passed.
+-- The front of the units placed so far: passing an event, and what is free after the last one passed.
 use Rattle.std.proofs.Common.{◌≡◌, ◌≢◌, ℕ, ◌+◌, ◌<◌, ◌≤◌, List, [], ◌∷◌, ◌++◌, refl, sym, ap, ◌∙◌, subst, arith, take, drop, max, ⊎_elim, zero, suc}
 use Rattle.std.proofs.lemmas.Bool.{cases_lt}
 use Rattle.std.proofs.lemmas.List.{take-append-drop}
@@ -38,7 +38,7 @@ first_next events slots start end k e some next low first f from free =
     (λ (h : e.slot + 2 ≤ f). omega arith)
     (cases_lt f (e.slot + 2))
 
--- behind the events passed, slots before the next event are free
+-- after the events passed, slots before the next event are free
 pub free_behind : (events : List Event) (slots k end : ℕ) → AreApart (drop k events) → AreOver end (take k events)
     → ((e : Event) → IsNext events k e → end + slots ≤ e.slot) → AreFree events slots end
 free_behind events slots k end apart passed clear n low high =

@@ -68,7 +68,7 @@ module _ {U : Type 0} (cue_of : U → ℕ) where
       (w.0, rw test (ap (λ l. u ∷ l) w.1))
 
   module _ (allowed : List (U × ℕ) → U → ℕ → Type 0) where
-    -- where no slot is allowed for a unit behind the earliest placement of those before it, its cue is the first without room
+    -- where no slot is allowed for a unit after the earliest placement of those before it, its cue is the first without room
     pub no_room_at : FitsEarlier allowed → (us : List U) (k : ℕ) (d : U) (slots : List ℕ) → AreInCueOrder cue_of us → k < length us
         → IsEarliest allowed (take k us) slots → take (k + 1) us ≡ take k us ++ get_or us k d ∷ []
         → ((f : ℕ) → allowed (zip (take k us) slots) (get_or us k d) f → ⊥) → IsFirstCrowded allowed cue_of us (cue_of (get_or us k d))

@@ -18,7 +18,7 @@ use Rattle.lanes.proofs.BatchLemmas.{frames_ascend}
 later_frame : (f frame : ℕ) → frame < f → (f == frame) ≡ false
 later_frame f frame high = grind (arith, nat_tests)
 
--- units that stand behind the frame have none in it
+-- units that follow the frame have none in it
 loads_none : (us : List ServiceChunk) (fs : List ℕ) (frame : ℕ) → AreFramesFrom (frame + 1) fs → loads_at (zip us fs) frame ≡ []
 loads_none [] fs frame from = refl
 loads_none (u ∷ us) [] frame from = refl

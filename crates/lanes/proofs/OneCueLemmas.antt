@@ -42,12 +42,12 @@ needs_slots events before p (q ∷ ps) f (g ∷ fs) show until placed =
     needs_slots events (before ++ (p, f) ∷ []) q ps g fs show (All-tail (λ chunk. chunk.until ≡ show) p (q ∷ ps) until) placed.1 in
     omega (arith, total_cons p (q ∷ ps), placed.1.0.behind, end_push before p f)
 
--- one behind another from a frame on
+-- one after another from a frame on
 packed : ℕ → List FieldChunk → List ℕ
 packed a [] = []
 packed a (p ∷ ps) = a ∷ packed (a + slots_of p) ps
 
--- units that fit before SHOW stand one behind another
+-- units that fit before SHOW stand one after another
 packed_placed : (events : List Event) (before : List (FieldChunk × ℕ)) (ps : List FieldChunk) (a load show : ℕ) → end_of before ≤ a → load ≤ a
     → All (λ chunk. chunk.load ≡ load) ps → All (λ chunk. chunk.until ≡ show) ps → AreFrom show events → a + total_slots ps ≤ show
     → IsPlaced (field_lane events) before ps (packed a ps)

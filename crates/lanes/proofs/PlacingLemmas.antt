@@ -64,7 +64,7 @@ pub record Parts {U : Type 0} (allowed : List (U × ℕ) → U → ℕ → Type 
   pub placed : IsPlaced allowed before us front
   pub rest : IsPlaced allowed (before ++ zip us front) vs back
 
--- a placement of two lists, one behind the other, has two parts
+-- a placement of two lists, one after the other, has two parts
 pub placed_parts : {U : Type 0} (allowed : List (U × ℕ) → U → ℕ → Type 0) (before : List (U × ℕ)) (us vs : List U) (hs : List ℕ)
     → IsPlaced allowed before (us ++ vs) hs → Parts allowed before us vs hs
 placed_parts allowed before [] vs hs p =

@@ -48,7 +48,7 @@ used_earlier from to g (u ∷ us) (f ∷ fs) (h ∷ gs) low all below =
     let right = sum_by-cons (bytes_between from to) (u, h) (zip us gs) in
     rw (left, right) (omega (arith, first, rest))
 
--- what fits behind later units fits behind earlier ones
+-- what fits after later units fits after earlier ones
 pub chunks_fit_earlier : (room : ℕ → ℕ) (ends : ℕ → Option ℕ) → FitsEarlier (IsAllowedInService room ends)
 chunks_fit_earlier room ends us fs gs u g p q low a = record {
   order = up_to_earlier g us fs gs low a.order;
@@ -102,7 +102,7 @@ within_push room ends before u f within a = record {
     in_delay start end is false p = let most : used start end before + 0 ≤ 125 = omega (arith, within.delays start end is) in most
     in_delay start end is true p = let parts = between_parts start end f p in a.delayed start end is parts.0 parts.1
 
--- so does each placement behind units that do
+-- so does each placement after units that do
 within_behind : (room : ℕ → ℕ) (ends : ℕ → Option ℕ) (before : List (ServiceChunk × ℕ)) (us : List ServiceChunk) (fs : List ℕ) → IsWithinRoom room ends before
     → IsPlaced (IsAllowedInService room ends) before us fs → IsWithinRoom room ends (before ++ zip us fs)
 within_behind room ends before [] [] within p = subst (λ l. IsWithinRoom room ends l) (sym (append-nil before)) within

@@ -6,7 +6,7 @@ use Rattle.lanes.specs.CueChunks.{chunk_bytes}
 use Rattle.lanes.specs.Chunks.{ServiceChunk}
 use Rattle.lanes.specs.declared.batch.Batch.{Batch}
 
--- the frame of each unit, where so many units stand before
+-- the frame of each unit, where this many units stand before
 abbrev pub frames_from : ℕ → List Batch → List ℕ
 frames_from before [] = []
 frames_from before (batch ∷ batches) = replicate (batch.units - before) batch.frame ++ frames_from batch.units batches
@@ -15,11 +15,11 @@ frames_from before (batch ∷ batches) = replicate (batch.units - before) batch.
 abbrev pub batch_frames : List Batch → List ℕ
 batch_frames batches = frames_from 0 batches
 
--- the bytes of the first so many units
+-- the bytes of the first this many units
 abbrev pub bytes_of_first : ℕ → List ServiceChunk → ℕ
 bytes_of_first count chunks = length (flat_map chunk_bytes (take count chunks))
 
--- the batches stand in ascending frames, from one on, have units behind so many, and end with the bytes of their last unit
+-- the batches stand in ascending frames, from one on, have units after this many, and end with the bytes of their last unit
 abbrev pub AreBatches : List ServiceChunk → ℕ → ℕ → List Batch → Type 0
 AreBatches chunks frame before [] = ⊤
 AreBatches chunks frame before (batch ∷ batches) =

@@ -10,11 +10,11 @@ use Rattle.line21_author.specs.UnitSlots.{unit_slots}
 abbrev pub slots_of : FieldChunk → ℕ
 slots_of chunk = unit_slots chunk.unit
 
--- the first slot behind the units placed so far
+-- the first slot after the units placed so far
 abbrev pub end_of : List (FieldChunk × ℕ) → ℕ
 end_of before = fold (λ (end : ℕ) (placed : FieldChunk × ℕ). placed.1 + slots_of placed.0) 0 before
 
--- the unit may begin at the slot, where `end` is the first slot behind the units before it
+-- the unit may begin at the slot, where `end` is the first slot after the units before it
 pub record IsAllowedInField (events : List Event) (end : ℕ) (chunk : FieldChunk) (slot : ℕ) : Type 0 where
   pub behind : end ≤ slot
   pub loaded : chunk.load ≤ slot

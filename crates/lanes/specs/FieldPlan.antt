@@ -34,7 +34,7 @@ lane_pair cadence planned frame = option_map (slot_pair planned) (slot_in cadenc
 abbrev pub given_in : Cadence → ℕ → PlannedField → Option Pair
 given_in cadence frame planned = if has_slot_in cadence frame then Some (slot_pair planned planned.slot) else None
 
--- the lane behind the frame
+-- the lane after the frame
 abbrev pub behind_frame : Cadence → ℕ → PlannedField → PlannedField
 behind_frame cadence frame planned =
     record planned { slot = if has_slot_in cadence frame then planned.slot + 1 else planned.slot }

@@ -1,5 +1,5 @@
 -- Between crates: the program's answer stands on none of these definitions.
--- First fit: each unit in turn in the first slot that the lane allows behind the units before it.
+-- First fit: each unit in turn in the first slot that the lane allows after the units before it.
 use Rattle.std.specs.Prelude.{ℕ, ◌≤◌, ◌↔◌, List, [], ◌∷◌, ◌++◌, ⊤}
 use Rattle.lanes.specs.Placing.{IsEarliest}
 
@@ -8,7 +8,7 @@ pub record IsFirst (P : ℕ → Type 0) (n : ℕ) : Type 0 where
   pub holds : P n
   pub first : (other : ℕ) → P other → n ≤ other
 
--- each unit stands in the first slot that is allowed behind the units before it
+-- each unit stands in the first slot that is allowed after the units before it
 abbrev pub IsFirstFit : {U : Type 0} → (List (U × ℕ) → U → ℕ → Type 0) → List (U × ℕ) → List U → List ℕ → Type 0
 IsFirstFit allowed before [] [] = ⊤
 IsFirstFit allowed before [] (f ∷ fs) = ⊥

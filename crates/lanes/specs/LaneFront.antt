@@ -10,11 +10,11 @@ pub record IsFrontOfEvents (events : List Event) (front : Front) : Type 0 where
   pub within : front.passed ≤ length events
   pub passed : AreOver front.end (take front.passed events)
 
--- so many slots from the slot on are free
+-- this many slots from the slot on are free
 abbrev pub AreFree : List Event → ℕ → ℕ → Type 0
 AreFree events slots slot = (n : ℕ) → slot ≤ n → n < slot + slots → IsFree events n
 
--- the first slot, from `start` on, from which on so many slots are free
+-- the first slot, from `start` on, from which on this many slots are free
 pub record IsFirstFree (events : List Event) (slots start slot : ℕ) : Type 0 where
   pub behind : start ≤ slot
   pub free : AreFree events slots slot

@@ -1,9 +1,9 @@
 -- Believed in part: the program's answer stands on some of these definitions.
--- Placements: a frame for each unit of a list, each unit where the lane allows it behind the units before it;
+-- Placements: a frame for each unit of a list, each unit where the lane allows it after the units before it;
 -- and the earliest placement, in which no unit stands later than in any other.
 use Rattle.std.specs.Prelude.{ℕ, ◌≤◌, List, [], ◌∷◌, ◌++◌, ⊤}
 
--- the units stand in the frames: each one is allowed in its own, behind those before it
+-- the units stand in the frames: each one is allowed in its own, after those before it
 abbrev pub IsPlaced : {U : Type 0} → (List (U × ℕ) → U → ℕ → Type 0) → List (U × ℕ) → List U → List ℕ → Type 0
 IsPlaced allowed before [] [] = ⊤
 IsPlaced allowed before [] (f ∷ fs) = ⊥

@@ -27,11 +27,11 @@ bytes_between from to placed = if is_between from to placed.1 then chunk_size pl
 abbrev pub used : ℕ → ℕ → List (ServiceChunk × ℕ) → ℕ
 used from to placed = sum_by (bytes_between from to) placed
 
--- no placed unit stands behind the frame
+-- no placed unit follows the frame
 abbrev pub AreUpTo : ℕ → List (ServiceChunk × ℕ) → Type 0
 AreUpTo frame placed = AllByRecursion (λ (each : ServiceChunk × ℕ). each.1 ≤ frame) placed
 
--- the unit may stand in the frame behind those placed before it, where frames have this room, and a delay that starts in a
+-- the unit may stand in the frame after those placed before it, where frames have this room, and a delay that starts in a
 -- frame ends in the frame that `ends` gives
 pub record IsAllowedInService (room : ℕ → ℕ) (ends : ℕ → Option ℕ) (before : List (ServiceChunk × ℕ)) (chunk : ServiceChunk) (frame : ℕ) : Type 0 where
   pub order : AreUpTo frame before

@@ -15,7 +15,7 @@ use Rattle.lanes.specs.declared.service_front.Front.{Front}
 use Rattle.lanes.specs.declared.placing.Placing.{Placing}
 use Rattle.lanes.specs.declared.batch.Batch.{Batch}
 
--- the units in their earliest frames, with the front behind them
+-- the units in their earliest frames, with the front after them
 pub record Reaches (share : ℕ) (cs : List Caption) (us : List ServiceChunk) (frames : List ℕ) (front : Front) : Type 0 where
   pub earliest : IsEarliest (caption_lane share cs) us frames
   pub front_is : IsFront share cs (zip us frames) front
@@ -45,7 +45,7 @@ pub record MayStand (cue : CueLoad) (front : Front) : Type 0 where
   pub loaded : cue.load ≤ front.frame
   pub ended : front.frame < cue.until
 
--- the next units, up to so many in all, are of a cue whose units may stand in the front's frame
+-- the next units, up to this many in all, are of a cue whose units may stand in the front's frame
 pub record FillsFrame (cs : List Caption) (cue : CueLoad) (units : List (List ℕ)) (chunks : List ServiceChunk) (placing : Placing) (end : ℕ) : Type 0 where
   pub kept : (rate : Rate) × ((frames : ℕ) × AreKept rate frames cs)
   pub stand : MayStand cue placing.front

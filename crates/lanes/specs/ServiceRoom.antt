@@ -32,14 +32,14 @@ abbrev pub IsBudgetAt : List Caption → List (ServiceChunk × ℕ) → ℕ → 
 IsBudgetAt cs before frame None = IsUndelayed cs frame
 IsBudgetAt cs before frame (Some budget) = IsSpent cs before frame budget
 
--- the front is at a frame behind which no unit stands, and knows what the units before leave of it and of its delay
+-- the front is at a frame after which no unit stands, and knows what the units before leave of it and of its delay
 pub record IsFront (share : ℕ) (cs : List Caption) (before : List (ServiceChunk × ℕ)) (front : Front) : Type 0 where
   pub at : IsLatestAt cs front.frame front.latest
   pub order : AreUpTo front.frame before
   pub room : used front.frame (front.frame + 1) before + front.room ≡ frame_room share cs front.frame
   pub budget : IsBudgetAt cs before front.frame front.budget
 
--- no frame before is behind all units
+-- no frame before is after all units
 abbrev pub IsFirstBehind : List (ServiceChunk × ℕ) → ℕ → Type 0
 IsFirstBehind before frame = (other : ℕ) → AreUpTo other before → frame ≤ other
 

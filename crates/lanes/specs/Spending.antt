@@ -14,16 +14,16 @@ shown_bytes = 2
 abbrev pub most_loads : ℕ
 most_loads = most_held - shown_bytes
 
--- the number of bytes that are held, where so many are left
+-- the number of bytes that are held, where this many are left
 abbrev pub held_behind : ℕ → ℕ
 held_behind left = most_held - left
 
--- of pieces of so many bytes, in turn, those for which enough is left
+-- of pieces of this many bytes, in turn, those for which enough is left
 abbrev pub granted : ℕ → List ℕ → List ℕ
 granted left [] = []
 granted left (bytes ∷ pieces) = if nat_le bytes left then bytes ∷ granted (left - bytes) pieces else granted left pieces
 
--- what is left behind the pieces
+-- what is left after the pieces
 abbrev pub left_behind : ℕ → List ℕ → ℕ
 left_behind left [] = left
 left_behind left (bytes ∷ pieces) = if nat_le bytes left then left_behind (left - bytes) pieces else left_behind left pieces

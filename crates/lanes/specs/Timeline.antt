@@ -14,7 +14,7 @@ Timeline = ℕ → Option Unit
 abbrev pub over : Timeline → Timeline → Timeline
 over first second n = option_or (first n) (second n)
 
--- the pair that is due once more behind the slot in which a unit began
+-- the pair that is due once more after the slot in which a unit began
 abbrev pub repeat_of : Option Unit → Option Pair
 repeat_of None = None
 repeat_of (Some unit) = if unit.doubled then Some unit.pair else None

@@ -1,4 +1,4 @@
-/// Units of a service that stand in one frame: those behind the batch before. Frames are counted from 0.
+/// Units of a service that stand in one frame: those after the batch before. Frames are counted from 0.
 #[derive(Clone, Copy)]
 pub struct Batch {
     /// The frame of the units.

@@ -32,7 +32,7 @@ impl Budget {
         }
     }
 
-    /// Spends so many bytes, where as many are left; else the answer is false, and nothing is spent.
+    /// Spends this many bytes, where as many are left; else the answer is false, and nothing is spent.
     pub fn spend(&mut self, bytes: u8) -> bool
         ensures fits { IsTrue result ↔ (bytes ≤ self.old.left) }
         ensures spent { OnTrue result

@@ -3,7 +3,7 @@
 ghost use Rattle.std.specs.Prelude.{◌≡◌, ◌+◌, ◌-◌, ◌≤◌, ℕ, List, sum};
 ghost use Rattle.lanes.specs.Spending.{granted, held_behind, left_behind, most_held, most_loads, shown_bytes};
 
-/// Behind any pieces, those that were granted and what is left are the whole budget; and as many bytes are held as were
+/// After any pieces, those that were granted and what is left are the whole budget; and as many bytes are held as were
 /// granted, with the two of the DisplayWindows command: 127 at most.
 pub fn law_of_spends()
     ensures left { (pieces : List ℕ)

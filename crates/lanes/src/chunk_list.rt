@@ -42,7 +42,7 @@ impl ChunkList {
         (&self.units, self.cues.as_slice())
     }
 
-    /// The bytes of all units, one unit behind the other.
+    /// The bytes of all units, one unit after the other.
     pub(crate) fn bytes(&self) -> &[u8]
         ensures { result.now ≡ flat_map chunk_bytes self.now }
     {

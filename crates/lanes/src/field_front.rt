@@ -6,7 +6,7 @@ ghost use Rattle.lanes.specs.FirstFit.{IsFirst};
 use crate::chunk::FieldChunk;
 use line21_author::Event;
 
-/// How far units have been placed: the first slot behind them, and how many events are over by then.
+/// How far units have been placed: the first slot after them, and how many events are over by then.
 #[derive(Clone, Copy, PartialEq, Eq)]
 pub struct Front {
     end: u64,
@@ -23,8 +23,8 @@ impl Front {
         Front { end: 0, passed: 0 }
     }
 
-    /// Places the unit in the first slot that is allowed behind the front, and moves the front
-    /// behind it. `None` where no slot is allowed; the front is of no use then. No event that was passed is
+    /// Places the unit in the first slot that is allowed after the front, and moves the front
+    /// after it. `None` where no slot is allowed; the front is of no use then. No event that was passed is
     /// tried again.
     pub fn place(&mut self, chunk: FieldChunk, events: &[Event]) -> Option<u32>
         requires small { self.old.end < 2 ^ 32 }
@@ -50,7 +50,7 @@ impl Front {
         }
     }
 
-    // Moves the front on to the first slot from which on so many slots are free.
+    // Moves the front on to the first slot from which on this many slots are free.
     fn pass_events(&mut self, slots: u32, events: &[Event])
         requires small { self.old.end < 2 ^ 32 }
         requires some { 1 ≤ slots }

@@ -18,7 +18,7 @@ ghost use Rattle.lanes.specs.SlotPlacing.{EarliestInFrames};
 ghost use Rattle.lanes.specs.Timeline.{column};
 
 /// A lane's units with one more: there is a placement exactly where some slot is allowed for that
-/// unit behind the earliest placement of the others, which stays as it is.
+/// unit after the earliest placement of the others, which stays as it is.
 pub fn law_of_one_more()
     ensures { (events : List Event) (chunks : List FieldChunk) (fs : List ℕ) (chunk : FieldChunk)
         → IsEarliest (field_lane events) chunks fs → OneMore (field_lane events) chunks fs chunk }

@@ -25,7 +25,7 @@ pub struct FieldLane {
 
 impl FieldLane {
     /// Places each unit in the first slot that its cue, the units before it and the events allow.
-    /// The answer is the lane at slot 0, or the first cue that has no room, or want of memory.
+    /// The answer is the lane at slot 0, or the first cue that has no room, or out of memory.
     pub fn place(self, alloc: Global) -> Result<PlacedField, PlanFault>
         requires order { AreInCueOrder field_chunk_cue self.chunks.items }
         requires apart { AreApart self.events.items }

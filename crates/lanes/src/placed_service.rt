@@ -32,7 +32,7 @@ pub struct ServiceLane {
 
 impl ServiceLane {
     /// Places each unit in the first frame that its cue, the units before it, the frame's events and the delays allow. The answer
-    /// is the lane at frame 0, or the first cue that has no room, or want of memory.
+    /// is the lane at frame 0, or the first cue that has no room, or out of memory.
     pub fn place(self, alloc: Global) -> Result<PlacedService, PlanFault>
         requires kept { (rate : Rate) × ((frames : ℕ) × AreKept rate frames self.captions.items) }
         requires least { 8 ≤ self.share }

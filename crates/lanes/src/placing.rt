@@ -17,7 +17,7 @@ use dtvcc_author::{Caption, PackedUnits};
 use std::alloc::{AllocError, Global};
 
 /// How far the units of a service have been placed: their batches, of which the last one may still grow, and what is free
-/// behind them.
+/// after them.
 #[derive(Drop)]
 pub(crate) struct Placing {
     batches: Vec<Batch>,
@@ -128,7 +128,7 @@ impl Placing {
         }
     }
 
-    // Places more units in the frame of the last one, up to so many in all, as far as the frame and its delay have the bytes.
+    // Places more units in the frame of the last one, up to this many in all, as far as the frame and its delay have the bytes.
     fn fill(&mut self, lengths: &[u8], end: usize)
         requires few { end ≤ length lengths.now }
         requires room { (units : List (List ℕ))
@@ -158,7 +158,7 @@ impl Placing {
         self.last.bytes += usize::from(size);
     }
 
-    // Makes this the last batch: in place of the last one, where that is in its frame, or else behind it.
+    // Makes this the last batch: in place of the last one, where that is in its frame, or else after it.
     fn hold(&mut self, batch: Batch) -> Result<(), AllocError>
         ensures grown { batch.frame ≡ self.old.last.frame
             → OnOk result (batches_of self.new ≡ self.old.batches.items ++ batch ∷ []) }

@@ -41,7 +41,7 @@ impl Front {
         front
     }
 
-    /// Places a unit of a cue in the first frame that is allowed behind the units before, and stays at it. `None` where no frame
+    /// Places a unit of a cue in the first frame that is allowed after the units before, and stays at it. `None` where no frame
     /// is allowed; the front is of no use then.
     pub fn place(
         &mut self,
@@ -119,7 +119,7 @@ impl Front {
         }
     }
 
-    /// Takes so many bytes of the frame and of its delay, where both have them; else the answer is false.
+    /// Takes this many bytes of the frame and of its delay, where both have them; else the answer is false.
     pub fn take(&mut self, size: u8) -> bool
         ensures fits { result ≡ takes self.old size }
         ensures taken { OnTrue result (self.new ≡ behind_taking self.old size) }

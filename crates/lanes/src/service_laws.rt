@@ -11,7 +11,7 @@ ghost use Rattle.dtvcc_author.specs.Kept.{AreKept};
 ghost use Rattle.lanes.specs.ServiceLane.{KeepsRoom, IsAllowedInService};
 
 /// A service's units with one more, whatever room its frames have and whatever delays there are: there is a placement exactly
-/// where some frame is allowed for that unit behind the earliest placement of the others, which stays as it is.
+/// where some frame is allowed for that unit after the earliest placement of the others, which stays as it is.
 pub fn law_of_one_more()
     ensures { (room : ℕ → ℕ) (ends : ℕ → Option ℕ) (chunks : List ServiceChunk) (frames : List ℕ)
         (chunk : ServiceChunk)

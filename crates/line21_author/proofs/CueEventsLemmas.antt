@@ -137,7 +137,7 @@ hide_fit in_field n cue None next later events below bound behind shown apart lo
 hide_fit in_field n cue (Some hide) next later events below bound behind shown apart loaded stays fit =
     hide_fit_at in_field (is_pop next.kind) (next.show == hide) n hide next events refl below shown apart loaded fit
 
--- what shows a cue and the events behind it
+-- what shows a cue and the events after it
 show_fit : (in_field : FieldNumber) (pop_on : Bool) (cue : Cue) (hides events : List Event)
     → IsFitFrom (hides_from pop_on cue) (hides ++ events)
     → IsFitFrom (first_from pop_on cue) ((if pop_on then control_event in_field cue.show Eoc ∷ [] else []) ++ hides ++ events)

@@ -14,7 +14,7 @@ use Rattle.cue_lists.specs.Cadence.{Cadence}
 use Rattle.cue_lists.proofs.CadenceLemmas.{slot_before, slots_apart, slots_ended, slots_rise}
 use Rattle.line21_author.specs.CueSlots.{cues_in_slots, timed_in_slots}
 
--- a cue by itself, in a field of so many slots
+-- a cue by itself, in a field of this many slots
 pub record IsSoundInSlots (slots : ℕ) (cue : Cue) : Type 0 where
   pub loaded : cue.load ≤ cue.show
   pub hidden : IfSome cue.hide (λ hide. cue.show < hide)

@@ -49,7 +49,7 @@ text_in_tables (ch ∷ text) =
 abbrev pub AreWritable : List Code → Type 0
 AreWritable = AllByRecursion IsWritable
 
--- codes behind codes
+-- codes after codes
 pub AreWritable-append : (codes more : List Code) → AreWritable codes → AreWritable more → AreWritable (codes ++ more)
 AreWritable-append [] more all too = too
 AreWritable-append (code ∷ codes) more all too = (all.0, AreWritable-append codes more all.1 too)

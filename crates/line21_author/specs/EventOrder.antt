@@ -1,5 +1,5 @@
 -- Between crates: the program's answer stands on none of these definitions.
--- The order of a channel's events: each is sent in two slots, one behind the other.
+-- The order of a channel's events: each is sent in two slots, one after the other.
 use Rattle.std.specs.Prelude.{ℕ, ◌+◌, ◌≤◌, List, [], ◌∷◌, ⊤}
 use Rattle.line21_author.specs.declared.event.Event.{Event}
 

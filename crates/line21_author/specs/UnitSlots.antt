@@ -8,6 +8,6 @@ use Rattle.line21_author.specs.declared.unit.Unit.{Unit}
 abbrev pub unit_slots : Unit → ℕ
 unit_slots unit = if unit.doubled then 2 else 1
 
--- the pair that is due once more, behind the slot in which a unit begins
+-- the pair that is due once more, after the slot in which a unit begins
 abbrev pub repeat_of_unit : Unit → Option Pair
 repeat_of_unit unit = if unit.doubled then Some unit.pair else None

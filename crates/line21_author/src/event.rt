@@ -25,7 +25,7 @@ pub struct Event {
 }
 
 impl Event {
-    /// The first slot behind the event.
+    /// The first slot after the event.
     pub fn end(self) -> u64
         ensures end { result ≡ self.slot + 2 }
         ensures small { result < 2 ^ 33 }

@@ -21,7 +21,7 @@ impl Unit {
         if self.doubled { 2 } else { 1 }
     }
 
-    /// The pair that is due once more, in the slot behind the one in which the unit begins.
+    /// The pair that is due once more, in the slot after the one in which the unit begins.
     pub fn repeat(self) -> Option<Pair>
         ensures { result ≡ repeat_of_unit self }
     {

@@ -76,15 +76,15 @@ module _ (before : List Pair) (doubler : Doubler) (q : Pair) (waits : Waits befo
   repeat_at p true same repeat = rw (ignored_next before q p, same, ← same_pair-true q p same) (turns_even (is_control q) (number_behind before q) (sym (ignored_now before q) ∙ waits.repeats q ∙ repeat))
   repeat_at p false same repeat = rw (ignored_next before q p, same) (begins (is_control p))
 
-  -- behind a control pair that acted its repeat is waited for
+  -- after a control pair that acted its repeat is waited for
   pub waits_behind_control : is_waiting doubler.waiting q ≡ false → is_control q ≡ true → Waits (q ∷ before) (record { waiting = Some q })
   waits_behind_control acts control = record { repeats = λ p. control_at p (same_pair q p) refl acts control }
 
-  -- behind another pair nothing is waited for
+  -- after another pair nothing is waited for
   pub waits_behind_other : is_control q ≡ false → Waits (q ∷ before) (record { waiting = None })
   waits_behind_other other = record { repeats = λ p. other_at p (same_pair q p) refl other }
 
-  -- behind a repeat nothing is waited for
+  -- after a repeat nothing is waited for
   pub waits_behind_repeat : is_waiting doubler.waiting q ≡ true → Waits (q ∷ before) (record { waiting = None })
   waits_behind_repeat repeat = record { repeats = λ p. repeat_at p (same_pair q p) refl repeat }
 
@@ -95,7 +95,7 @@ module _ (before : List Pair) (doubler : Doubler) (q : Pair) (waits : Waits befo
   next_by true true control waiting = waits_behind_repeat before doubler q waits (sym waiting)
   next_by false waiting control _ = waits_behind_other before doubler q waits (sym control)
 
-  -- behind the next pair, it is waited for where it is a control pair that is no repeat
+  -- after the next pair, it is waited for where it is a control pair that is no repeat
   pub waits_next : (control waiting : Bool) (next : Option Pair) → control ≡ is_control q → waiting ≡ is_waiting doubler.waiting q → next ≡ then_some (control && not waiting) q → Waits (q ∷ before) (record { waiting = next })
   waits_next control waiting next is_control is_waiting is = rw is (next_by control waiting is_control is_waiting)
 
@@ -103,7 +103,7 @@ module _ (before : List Pair) (doubler : Doubler) (q : Pair) (waits : Waits befo
 same_pair-self : (p : Pair) → same_pair p p ≡ true
 same_pair-self p = both_true ((Decides-eqb p.a p.a).1 refl) ((Decides-eqb p.b p.b).1 refl)
 
--- behind blocks nothing is waited for
+-- after blocks nothing is waited for
 pub blocks_wait : (before : List Pair) → Blocks before → Waits before (record { waiting = None })
 blocks_wait _ none = waits_first
 blocks_wait _ (doubled p before control blocks) =

@@ -1,5 +1,5 @@
 -- Believed: the program's answer stands on these definitions.
--- The words of line 21 pens, in cue lists and in the texts of screens: a colour, and behind it -i for italics and -u for underlining.
+-- The words of line 21 pens, in cue lists and in the texts of screens: a colour, and after it -i for italics and -u for underlining.
 use Rattle.std.specs.Prelude.{ℕ, Bool, if◌then◌else◌, List, [], codes}
 use Rattle.line21_codes.specs.declared.styles.Colour.{Colour}
 use Rattle.line21_codes.specs.declared.styles.Colour.TheVariants.{White, Green, Blue, Cyan, Red, Yellow, Magenta}
@@ -14,7 +14,7 @@ colour_word Red = codes "red"
 colour_word Yellow = codes "yellow"
 colour_word Magenta = codes "magenta"
 
--- what an italic pen has behind its colour, and what an underlined pen has behind that
+-- what an italic pen has after its colour, and what an underlined pen has after that
 abbrev pub italic_mark : Bool → List ℕ
 italic_mark italic = if italic then codes "-i" else []
 

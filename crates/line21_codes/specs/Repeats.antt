@@ -25,7 +25,7 @@ abbrev pub is_waiting : Option Pair → Pair → Bool
 is_waiting None pair = false
 is_waiting (Some q) pair = same_pair q pair
 
--- behind these pairs the object ignores what is to be ignored: whatever pair comes next
+-- after these pairs the object ignores what is to be ignored: whatever pair comes next
 pub record Waits (before : List Pair) (doubler : Doubler) : Type 0 where
   pub repeats : (pair : Pair) → is_ignored before pair ≡ is_waiting doubler.waiting pair
 

@@ -57,7 +57,7 @@ pub fn spelled_is_shown()
     ensures none { (ch : ℕ) → spelling_of ch ≡ None → HasNoCode ch }
 {}
 
-/// Behind blocks, of which each is a control pair twice or another pair alone, the next pair acts,
+/// After blocks, of which each is a control pair twice or another pair alone, the next pair acts,
 /// and where it is a control pair its repeat is ignored.
 pub fn blocks_act_once()
     ensures first { (before : List Pair) (pair : Pair) → Blocks before

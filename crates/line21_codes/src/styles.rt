@@ -30,14 +30,14 @@ impl Colour {
     }
 }
 
-/// What an italic pen has behind its colour, in cue lists and in the texts of screens.
+/// What an italic pen has after its colour, in cue lists and in the texts of screens.
 pub fn italic_mark(italic: bool) -> &'static str
     ensures { result.now ≡ italic_mark italic }
 {
     if italic { "-i" } else { "" }
 }
 
-/// What an underlined pen has behind that.
+/// What an underlined pen has after that.
 pub fn underline_mark(underline: bool) -> &'static str
     ensures { result.now ≡ underline_mark underline }
 {

@@ -125,7 +125,7 @@ moved_at cells rows old new r c above below =
     let within : in_window rows new r ≡ true = grind (arith, nat_tests) in
     rw within refl
 
--- so many rows that ended at one row end at another, and no other row has a cell
+-- this many rows that ended at one row end at another, and no other row has a cell
 pub record HasMoved (was cells : List (Option Cell)) (count old new : ℕ) : Type 0 where
   pub moved_to : CopiedTo was cells ((old - count) * 32) ((new - count) * 32) (count * 32)
   pub none_above : AllWithin (λ cell. cell ≡ None) cells 0 ((new - count) * 32)

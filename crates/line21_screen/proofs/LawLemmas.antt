@@ -24,7 +24,7 @@ ignored_by : (before : List Pair) (p : Pair) → is_ignored before p ≡ (is_con
 unfolding is_ignored
 ignored_by before p = refl
 
--- the number of a pair behind its equal
+-- the number of a pair after its equal
 number_next : (before : List Pair) (p : Pair) → number_behind (p ∷ before) p ≡ (if same_pair p p then number_behind before p + 1 else 0)
 unfolding number_behind
 number_next before p = refl
@@ -41,17 +41,17 @@ even_next n odd = grind (arith, nat_tests)
 number_decides : (before : List Pair) (p : Pair) → is_control p ≡ true → is_ignored before p ≡ (number_behind before p % 2 == 1)
 number_decides before p control = rw (ignored_by before p, control) refl
 
--- the number of a pair behind its equal is one more
+-- the number of a pair after its equal is one more
 number_more : (before : List Pair) (p : Pair) → number_behind (p ∷ before) p ≡ number_behind before p + 1
 number_more before p = rw (number_next before p, same_pair-self p) refl
 
--- behind a control pair that acts, its equal is ignored
+-- after a control pair that acts, its equal is ignored
 pub repeat_is_ignored : (before : List Pair) (p : Pair) → is_control p ≡ true → is_ignored before p ≡ false → is_ignored (p ∷ before) p ≡ true
 repeat_is_ignored before p control acts =
     rw (number_decides (p ∷ before) p control, number_more before p)
     (odd_next (number_behind before p) (sym (number_decides before p control) ∙ acts))
 
--- behind a repeat, its equal acts again
+-- after a repeat, its equal acts again
 pub third_acts : (before : List Pair) (p : Pair) → is_control p ≡ true → is_ignored before p ≡ true → is_ignored (p ∷ before) p ≡ false
 third_acts before p control ignored =
     rw (number_decides (p ∷ before) p control, number_more before p)

@@ -19,12 +19,12 @@ pub none_before : (cells : List (Option Cell)) (first r c : ℕ) → AllWithin (
 none_before cells first r c none above =
     none_at cells r c (λ inside. none (place r c) None (omega arith) (omega (arith, row_from r c inside, col_to r c inside)))
 
--- and no row that begins at the place behind the last one or after it
+-- and no row that begins at the place after the last one or after it
 pub none_behind : (cells : List (Option Cell)) (behind r c : ℕ) → AllWithin (λ cell. cell ≡ None) cells behind 480 → behind ≤ (r - 1) * 32 → grid_of cells r c ≡ None
 none_behind cells behind r c none below =
     none_at cells r c (λ inside. none (place r c) None (omega arith) (omega (arith, row_from r c inside, row_to r c inside, col_to r c inside)))
 
--- no place has a cell where the first one isn't before the one behind the last
+-- no place has a cell where the first one isn't before the one after the last
 pub none_at_all : (cells : List (Option Cell)) (first behind r c : ℕ) → AllWithin (λ cell. cell ≡ None) cells 0 first → AllWithin (λ cell. cell ≡ None) cells behind 480 → behind ≤ first → grid_of cells r c ≡ None
 none_at_all cells first behind r c none_above none_below empty =
     none_at cells r c (λ inside. elim (cases_lt (place r c) first) [
@@ -41,7 +41,7 @@ row_is cells r from to long row_from row_to is_from is_to =
     (λ k within. get_or-take (to - from) (drop from cells) k None (omega arith) ∙ get_or-drop from cells k None
     ∙ ap (λ at. get_or cells at None) (omega arith) ∙ sym (cell_at cells r k row_from row_to within))
 
--- two lists without cells before and behind some places agree where they agree at these
+-- two lists without cells before and after some places agree where they agree at these
 pub same_cells : (xs ys : List (Option Cell)) (from to : ℕ) → length xs ≡ 480 → length ys ≡ 480
     → AllWithin (λ cell. cell ≡ None) xs 0 from → AllWithin (λ cell. cell ≡ None) ys 0 from
     → AllWithin (λ cell. cell ≡ None) xs to 480 → AllWithin (λ cell. cell ≡ None) ys to 480

@@ -12,12 +12,12 @@ use Rattle.line21_screen.specs.Windows.{moved, rolled}
 use Rattle.line21_screen.specs.Pens.{PenState, pen_at_row, at_column, advanced, print_column}
 use Rattle.line21_screen.specs.Channels.{ChannelState}
 
--- the hidden memory behind an edit in a mode
+-- the hidden memory after an edit in a mode
 abbrev pub edited_hidden : Mode → (Grid → Grid) → Grid → Grid
 edited_hidden PopOn edit g = edit g
 edited_hidden _ edit g = g
 
--- the displayed memory behind an edit in a mode
+-- the displayed memory after an edit in a mode
 abbrev pub edited_displayed : Mode → (Grid → Grid) → Grid → Grid
 edited_displayed PaintOn edit g = edit g
 edited_displayed (RollUp rows) edit g = edit g

@@ -44,14 +44,14 @@ after_character None s = s
 abbrev pub after_text : ℕ → ℕ → ChannelState → ChannelState
 after_text first second s = after_character (basic_of second) (after_character (basic_of first) s)
 
--- whether extended data are under way behind a pair of theirs: in field 2 it begins them, or ends
+-- whether extended data are under way after a pair of theirs: in field 2 it begins them, or ends
 -- them where its first byte is 0F (that field 1 has none is this project's own choice)
 abbrev pub begins_xds : FieldNumber → ℕ → Bool
 begins_xds fields.One first = false
 begins_xds fields.Two first = nat_lt first 0x0F
 
 -- one equation for each code. A pair of extended data prints nothing, and text within them is
--- dropped. A control code selects its data channel and ends extended data (what stays behind such
+-- dropped. A control code selects its data channel and ends extended data (what stays after such
 -- pairs is this project's own choice)
 abbrev pub after_code : FieldNumber → Code → FieldState → FieldState
 after_code in_field Null s = s

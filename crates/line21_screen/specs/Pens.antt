@@ -1,6 +1,6 @@
 -- Believed: the program's answer stands on these definitions.
 -- The pen: where the next character goes, and how it is shown (CTA-608-E and 47 CFR 79.101,
--- cursor). Behind the last column it stands at column 32; that place is this project's own choice.
+-- cursor). Past the last column it stands at column 32; that place is this project's own choice.
 use Rattle.std.specs.Prelude.{ℕ, ◌+◌, ◌==◌, min, Bool, true, false, if◌then◌else◌, Option, Some, None}
 use Rattle.line21_codes.specs.declared.styles.Colour.{Colour}
 use Rattle.line21_codes.specs.declared.styles.Colour.TheVariants.{White}
@@ -31,20 +31,20 @@ at_column col pen = record { row = pen.row; col = col; style = pen.style }
 abbrev pub with_style : Style → PenState → PenState
 with_style style pen = record { row = pen.row; col = pen.col; style = style }
 
--- the column that a character goes to: behind the last column it replaces the last cell
+-- the column that a character goes to: past the last column it replaces the last cell
 abbrev pub print_column : PenState → ℕ
 print_column pen = min pen.col 31
 
--- the pen behind a character
+-- the pen after a character
 abbrev pub advanced : PenState → PenState
 advanced pen = at_column (min (pen.col + 1) 32) pen
 
--- a tab offset goes to the last column at most, and moves no pen that stands behind it
+-- a tab offset goes to the last column at most, and moves no pen that follows it
 -- (for the last, this project's own choice)
 abbrev pub tabbed : ℕ → PenState → PenState
 tabbed columns pen = if pen.col == 32 then pen else at_column (min (pen.col + columns) 31) pen
 
--- the style behind a mid-row code: a colour ends italics, and italics keep the colour
+-- the style after a mid-row code: a colour ends italics, and italics keep the colour
 abbrev pub mid_row_style : Option Colour → Bool → Style → Style
 mid_row_style (Some colour) underline style =
     record { colour = colour; italic = false; underline = underline }

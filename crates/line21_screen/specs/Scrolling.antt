@@ -1,5 +1,5 @@
 -- Between crates: the program's answer stands on none of these definitions.
--- What holds of roll-up captions behind every list of pairs (CTA-608-E, roll-up captions).
+-- What holds of roll-up captions after every list of pairs (CTA-608-E, roll-up captions).
 use Rattle.std.specs.Prelude.{⊤}
 use Rattle.line21_screen.specs.declared.modes.Mode.{Mode}
 use Rattle.line21_screen.specs.declared.modes.Mode.TheVariants.{RollUp}

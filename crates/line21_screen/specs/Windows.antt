@@ -1,5 +1,5 @@
 -- Believed in part: the program's answer stands on some of these definitions.
--- The window of roll-up captions: so many rows, of which the lowest is the base row
+-- The window of roll-up captions: this many rows, of which the lowest is the base row
 -- (CTA-608-E, roll-up captions; 47 CFR 79.101, roll-up style).
 use Rattle.std.specs.Prelude.{◌≡◌, ℕ, ◌+◌, ◌-◌, ◌&&◌, nat_le, nat_lt, Bool, false, if◌then◌else◌, None}
 use Rattle.line21_screen.specs.Grid.{Grid}

@@ -134,7 +134,7 @@ impl Channel {
         self.text = false;
     }
 
-    // Roll-up captions of so many rows. From another mode they begin at the lowest row; else the rows
+    // Roll-up captions of this many rows. From another mode they begin at the lowest row; else the rows
     // and the pen move down where there is no room above the base row.
     fn roll_up(&mut self, rows: u8)
         requires from { 2 ≤ rows }

@@ -79,7 +79,7 @@ impl Field {
         }
     }
 
-    // Takes the field's next pair, which is null: it does nothing, and behind it no control pair waits for its repeat.
+    // Takes the field's next pair, which is null: it does nothing, and after it no control pair waits for its repeat.
     fn pass_null(&mut self)
         ensures { (in_field : FieldNumber) (before : List Pair) → Leads in_field before self.old
             → Leads in_field (null_pair ∷ before) self.new }
@@ -168,7 +168,7 @@ impl Field {
     }
 }
 
-// Whether extended data are under way behind a pair of theirs with this first byte.
+// Whether extended data are under way after a pair of theirs with this first byte.
 fn begins_xds(in_field: FieldNumber, first: u8) -> bool
     ensures { result ≡ begins_xds in_field first }
 {

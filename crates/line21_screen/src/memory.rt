@@ -178,7 +178,7 @@ fn copy_places(cells: &mut [Option<Cell>], other: &[Option<Cell>], from: usize, 
     }
 }
 
-// Copies so many rows that end at the row `old` to those that end at `new`.
+// Copies this many rows that end at the row `old` to those that end at `new`.
 fn copy_rows(cells: &mut [Option<Cell>], count: u8, old: u8, new: u8)
     requires length { length cells.old ≡ 480 }
     requires old { count ≤ old }

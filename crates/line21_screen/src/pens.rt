@@ -9,7 +9,7 @@ const PLAIN: Style = Style {
     underline: false,
 };
 
-// The column behind the last one.
+// The column after the last one.
 const BEHIND: u8 = 32;
 
 /// Where the next character goes: row 1 to 15, column 0 to 32, and how it is shown.
@@ -85,14 +85,14 @@ impl Pen {
         self.col.min(BEHIND - 1)
     }
 
-    // Behind a character.
+    // After a character.
     pub(crate) fn advanced(self) -> Pen
         ensures { pen_of result ≡ advanced (pen_of self) }
     {
         self.at_column((self.col + 1).min(BEHIND))
     }
 
-    // Behind a tab offset.
+    // After a tab offset.
     pub(crate) fn tabbed(self, columns: u8) -> Pen
         requires { columns ≤ 3 }
         ensures { pen_of result ≡ tabbed columns (pen_of self) }

@@ -21,7 +21,7 @@ pub(crate) fn acts_always(control: Control) -> bool
     )
 }
 
-// The style behind a mid-row code: a colour ends italics, and italics keep the colour.
+// The style after a mid-row code: a colour ends italics, and italics keep the colour.
 pub(crate) fn mid_row_style(colour: Option<Colour>, underline: bool, style: Style) -> Style
     ensures { result ≡ mid_row_style colour underline style }
 {

@@ -118,7 +118,7 @@ extended_pops : (o : Option ℕ) (d h : Grid) (b : ℕ) (p : PenState) → IsPop
 extended_pops (Some ch) d h b p = taken_back_pops (p.col == 0) ch d h b p
 extended_pops None d h b p = (refl, refl)
 
--- pop-on captions stay under way behind a text pair
+-- pop-on captions stay under way after a text pair
 text_pops : (first second : ℕ) (d h : Grid) (b : ℕ) (p : PenState) → IsPopOn (after_text first second (pop_on d h b p))
 text_pops first second d h b p =
     by_parts (λ s. IsPopOn (after_character (basic_of second) s)) (character_pops (basic_of second))
@@ -133,7 +133,7 @@ text_blind first second g d h b p =
     (character_blind (basic_of second) g)
     (after_character (basic_of first) (pop_on d h b p)) (character_pops (basic_of first) d h b p)
 
--- pop-on captions stay under way behind each code that runs are written with
+-- pop-on captions stay under way after each code that runs are written with
 code_pops : (code : Code) → IsWriting code → (d h : Grid) (b : ℕ) (p : PenState) → IsPopOn (does code (pop_on d h b p))
 code_pops code (text first second) d h b p = text_pops first second d h b p
 code_pops code (special_is byte) d h b p = special_pops (special_of byte) d h b p
@@ -160,7 +160,7 @@ codes_blind (code ∷ codes) writing s is = (
   codes_blind codes writing.1 (does code s) (by_parts (λ x. IsPopOn (does code x)) (code_pops code writing.0) s is),
 )
 
--- codes behind codes
+-- codes after codes
 AreWriting-append : (codes more : List Code) → AreWriting codes → AreWriting more → AreWriting (codes ++ more)
 AreWriting-append [] more writing too = too
 AreWriting-append (code ∷ codes) more writing too = (writing.0, AreWriting-append codes more writing.1 too)

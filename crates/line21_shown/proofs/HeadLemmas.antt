@@ -1,4 +1,4 @@
--- The first of the cues that a channel's timeline goes on with: its units, and what begins before and behind its SHOW.
+-- The first of the cues that a channel's timeline continues with: its units, and what begins before and after its SHOW.
 use Rattle.std.proofs.Common.{◌≡◌, ℕ, ◌+◌, ◌*◌, ◌<◌, ◌≤◌, List, [], ◌∷◌, ◌++◌, map, Option, Some, None, All, refl, sym, ap, ◌∙◌, subst, arith, append_assoc}
 use Rattle.std.specs.Prelude.{IfSome, MatchOption}
 use Rattle.std.specs.Option.{option_or}
@@ -33,7 +33,7 @@ pub first_sound : (step frames : ℕ) (cue : Cue) (later : List Cue) → AreInSe
 first_sound step frames cue [] sequence = sequence
 first_sound step frames cue (next ∷ later) sequence = sequence.0
 
--- those behind it are in sequence
+-- those after it are in sequence
 pub rest_in_sequence : (step frames : ℕ) (cue : Cue) (later : List Cue) → AreInSequence step frames (cue ∷ later) → AreInSequence step frames later
 rest_in_sequence step frames cue [] sequence = tt
 rest_in_sequence step frames cue (next ∷ later) sequence = sequence.2
@@ -74,7 +74,7 @@ sequence_in_slots slots (cue ∷ (next ∷ later)) sequence =
       sequence_in_slots slots (next ∷ later) sequence.2,
     )
 
--- they load behind its SHOW
+-- they load after its SHOW
 rest_loads : (frames : ℕ) (cue : Cue) (later : List Cue) → AreInSequence 1 frames (cue ∷ later) → LoadFrom cue.show later
 rest_loads frames cue [] sequence = tt
 rest_loads frames cue (next ∷ later) sequence = sequence.1.loaded
@@ -103,7 +103,7 @@ pub record Continues (in_field : FieldNumber) (t : Timeline) (a : ℕ) (hide : O
   pub placed : ArePlacedFrom (events_on in_field hide cues) a chunks frames
   pub same : (n : ℕ) → a ≤ n → t n ≡ over (event_at (events_on in_field hide cues)) (stands chunks frames) n
 
--- the first of these cues with its units, where those behind it stand from frame z on
+-- the first of these cues with its units, where those after it stand from frame z on
 pub record Head (in_field : FieldNumber) (t : Timeline) (a z : ℕ) (hide : Option ℕ) (cue : Cue) (later : List Cue) : Type 0 where
   pub own : List FieldChunk
   pub behind : List FieldChunk
@@ -163,7 +163,7 @@ loading in_field t a z hide cue later h up only n from below =
     h.same n from ∙ ap (λ u. option_or u (option_or (stands h.own h.front n) (stands h.behind h.back n))) (only n below)
     ∙ ap (option_or (erases in_field hide n)) (ap (option_or (stands h.own h.front n)) none ∙ or_nothing (stands h.own h.front n))
 
--- behind SHOW the timeline goes on with what hides the cue
+-- after SHOW the timeline continues with what hides the cue
 pub continues_behind : (in_field : FieldNumber) (t : Timeline) (a z : ℕ) (hide : Option ℕ) (cue : Cue) (later : List Cue) → Head in_field t a z hide cue later
     → a ≤ z → cue.show ≤ z
     → ((n : ℕ) → z ≤ n → event_at (events_on in_field hide (cue ∷ later)) n ≡ event_at (events_behind in_field cue later) n)

@@ -47,7 +47,7 @@ cue_loaded number cue rest line21 all =
     let chunk_of : Unit → FieldChunk = λ (unit : Unit). record { unit = unit; load = cue.load; until = cue.show; cue = number } in
     (subst (λ (codes : List Code). AllByRecursion HasTime (map chunk_of (map (unit_of (field_of_kind cue.kind)) codes) ++ rest)) w.2 all).0
 
--- what holds of all holds of those behind some
+-- what holds of all holds of those after some
 all_behind : (front rest : List FieldChunk) → AllByRecursion HasTime (front ++ rest) → AllByRecursion HasTime rest
 all_behind [] rest all = all
 all_behind (chunk ∷ front) rest all = all_behind front rest all.1

@@ -34,7 +34,7 @@ standing [] fs z = []
 standing (chunk ∷ chunks) [] z = []
 standing (chunk ∷ chunks) (f ∷ fs) z = if nat_lt f z then chunk_code chunk ∷ standing chunks fs z else []
 
--- the chunks stand one behind the other from frame a on and before frame z, where the timeline e has nothing
+-- the chunks stand one after the other from frame a on and before frame z, where the timeline e has nothing
 abbrev pub StandBeside : Timeline → ℕ → ℕ → List FieldChunk → List ℕ → Type 0
 StandBeside e a z [] [] = ⊤
 StandBeside e a z [] (f ∷ fs) = ⊥

@@ -221,7 +221,7 @@ module _ (in_field : FieldNumber) (t : Timeline) (frames a start : ℕ) (hide : 
       subst (IsOnScreen cue.kind cue earlier) (sym written)
       (on_screen_of cue.kind cue earlier (acts t start) refl plain line21 formed.kind formed.some its_sound.apart begins)
 
-  -- behind SHOW the timeline goes on with what hides the cue
+  -- after SHOW the timeline continues with what hides the cue
   pub plain_continues : Continues in_field t cue.show cue.hide later
   plain_continues =
       continues_behind in_field t a cue.show hide cue later its_first (omega arith) (omega arith)

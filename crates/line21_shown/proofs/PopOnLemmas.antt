@@ -49,7 +49,7 @@ pop_kind (kind.Win window) pop = cc
 pub pop_runs : (channel : Chan) (k : Kind) (hide : Option ℕ) (runs : List Run) → k ≡ kind.Pop channel → IsOfKind k hide runs → All IsLine21Run runs
 pop_runs channel k hide runs is formed = (subst (λ x. IsOfKind x hide runs) is formed).2
 
--- behind it no roll-up captions need be under way
+-- after it no roll-up captions need be under way
 pub not_rolling : (channel : Chan) (k : Kind) (base : ℕ) (g : Grid) (s : ChannelState) → k ≡ kind.Pop channel → IsRollingFor k base g s
 not_rolling channel k base g s is = subst (λ x. IsRollingFor x base g s) (sym is) tt
 
@@ -75,7 +75,7 @@ module _ (in_field : FieldNumber) (t : Timeline) (frames a : ℕ) (hide : Option
   shows : event_at (events_on in_field hide (cue ∷ later)) cue.show ≡ Some (showing_unit in_field)
   shows = at_show in_field hide cue later pop apart
 
-  -- so the units behind those of the cue stand behind that
+  -- so the units after those of the cue stand after that
   free_behind : (f : ℕ) → cue.show ≤ f → IsFree (events_on in_field hide (cue ∷ later)) f → suc cue.show ≤ f
   free_behind f above free =
       ⊎_elim
@@ -131,7 +131,7 @@ module _ (in_field : FieldNumber) (t : Timeline) (frames a : ℕ) (hide : Option
       ap (λ u. (does_unit u (acts t cue.show)).displayed) now ∙ shows_hidden in_field (acts t cue.show) ∙ hidden_at_show
       ∙ sym (ap (λ k. shown_from k cue earlier) kind_is.1)
 
-  -- behind SHOW the timeline goes on with what hides the cue
+  -- after SHOW the timeline continues with what hides the cue
   pub pop_continues : Continues in_field t (suc cue.show) cue.hide later
   pop_continues =
       continues_behind in_field t a (suc cue.show) hide cue later first (omega arith) (omega arith)

@@ -31,7 +31,7 @@ use Rattle.line21_shown.specs.Writing.{with_run, with_runs, pen_behind_all}
 use Rattle.line21_shown.proofs.CanvasLemmas.{roll_up, canvas, pen_at, moved_still}
 use Rattle.line21_shown.proofs.WritingLemmas.{run_within, runs_on}
 
--- roll-up captions of so many rows are under way, on a base row, and show this
+-- roll-up captions of this many rows are under way, on a base row, and show this
 pub record IsRolling (rows base : ℕ) (g : Grid) (s : ChannelState) : Type 0 where
   pub mode : s.mode ≡ RollUp rows
   pub on_base : s.base ≡ base

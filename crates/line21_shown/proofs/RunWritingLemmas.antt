@@ -53,7 +53,7 @@ upright_white Red italic underline is = cc
 upright_white Yellow italic underline is = cc
 upright_white Magenta italic underline is = cc
 
--- the style behind its mid-row code: italics, which are white, keep the white of the preamble before
+-- the style after its mid-row code: italics, which are white, keep the white of the preamble before
 mid_row_is : (colour : Colour) (italic underline : Bool) → (italic ≡ true → colour ≡ White)
     → mid_row_style (if italic then None else Some colour) underline (white false)
     ≡ record { colour = colour; italic = italic; underline = underline }

@@ -19,7 +19,7 @@ use Rattle.line21_shown.proofs.HeadLemmas.{first_sound}
 use Rattle.line21_shown.proofs.LoadingLemmas.{until}
 use Rattle.line21_shown.proofs.RollWritingLemmas.{IsRolling}
 
--- behind a roll-up cue roll-up captions of its rows are under way on its base row, and show this
+-- after a roll-up cue roll-up captions of its rows are under way on its base row, and show this
 abbrev pub IsRollingFor : Kind → ℕ → Grid → ChannelState → Type 0
 IsRollingFor (kind.Pop channel) base g s = ⊤
 IsRollingFor (kind.Paint channel) base g s = ⊤
@@ -49,7 +49,7 @@ pub hidden_by : (hide : Option ℕ) (g : Grid) (earlier : List Cue) (s : Channel
 hidden_by hide g [] s cue later is link = subst (λ o. IfSome o (λ h. h ≤ cue.show)) (sym is.0) tt
 hidden_by hide g (former ∷ earlier) s cue later is link = subst (λ o. IfSome o (λ h. h ≤ cue.show)) (sym is.0) link.shown
 
--- cues in their order behind earlier ones, all of them newest first
+-- cues in their order after earlier ones, all of them newest first
 abbrev pub newest_first : List Cue → List Cue → List Cue
 newest_first [] earlier = earlier
 newest_first (cue ∷ later) earlier = newest_first later (cue ∷ earlier)
@@ -71,7 +71,7 @@ not_shown_yet f (cue ∷ cues) earlier later =
     let test : nat_le cue.show f ≡ false = grind (arith, nat_tests) in
     not_shown_yet f cues (cue ∷ earlier) later.1 ∙ rw test refl
 
--- the cues behind a cue that isn't shown yet aren't either
+-- the cues after a cue that isn't shown yet aren't either
 pub all_later : (step frames f : ℕ) (cue : Cue) (later : List Cue) → AreInSequence step frames (cue ∷ later) → f < cue.show → AreLater f (cue ∷ later)
 all_later step frames f cue [] sequence above = (above, tt)
 all_later step frames f cue (next ∷ later) sequence above =
@@ -85,7 +85,7 @@ pub shown_yet : (frames f : ℕ) (cue : Cue) (later earlier : List Cue) → AreI
 shown_yet frames f cue later earlier sequence below =
     ap (shown_of_newest f) (sym (not_shown_yet f (cue ∷ later) earlier (all_later 1 frames f cue later sequence below)))
 
--- a HIDE behind a frame hides nothing yet
+-- a HIDE after a frame hides nothing yet
 not_hidden_yet : (hide : Option ℕ) (n : ℕ) (g : Grid) → IfSome hide (λ h. n ≤ h) → until hide n g ≡ g
 not_hidden_yet None n g hidden = refl
 not_hidden_yet (Some h) n g hidden = let test : nat_lt h n ≡ false = grind (arith, nat_tests) in rw test refl
@@ -99,7 +99,7 @@ shown_until (Some h) f g = go (nat_le h f) refl
     go true test = let past : nat_lt h (suc f) ≡ true = grind (arith, nat_tests) in rw (test, past) refl
     go false test = let past : nat_lt h (suc f) ≡ false = grind (arith, nat_tests) in rw (test, past) refl
 
--- a HIDE behind SHOW is that frame or later
+-- a HIDE after SHOW is that frame or later
 at_or_behind : (hide : Option ℕ) (show n : ℕ) → n ≤ suc show → IfSome hide (λ h. show < h) → IfSome hide (λ h. n ≤ h)
 at_or_behind None show n low hidden = tt
 at_or_behind (Some h) show n low hidden = omega arith

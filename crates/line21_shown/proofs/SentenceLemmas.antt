@@ -108,14 +108,14 @@ not_past : (hide : Option ℕ) (f : ℕ) → IfSome hide (λ h. f < h) → hide_
 not_past None f later = refl
 not_past (Some h) f later = grind (arith, nat_tests)
 
--- a cue that is up is the newest whose SHOW has come, where those behind it aren't shown yet
+-- a cue that is up is the newest whose SHOW has come, where those after it aren't shown yet
 newest_is : (f : ℕ) (cue : Cue) (later earlier : List Cue) → cue.show ≤ f → AllByRecursion (λ (next : Cue). f < next.show) later
     → shown_by f (newest_first later (cue ∷ earlier)) ≡ cue ∷ earlier
 newest_is f cue later earlier shown behind =
     let test : nat_le cue.show f ≡ true = grind (arith, nat_tests) in
     not_shown_yet f later (cue ∷ earlier) behind ∙ rw test refl
 
--- behind a cue that isn't hidden yet, no cue is shown
+-- after a cue that isn't hidden yet, no cue is shown
 behind_hidden : (step frames f : ℕ) (cue : Cue) (later : List Cue) → AreInSequence step frames (cue ∷ later) → IsSome cue.hide → IfSome cue.hide (λ h. f < h)
     → AllByRecursion (λ (next : Cue). f < next.show) later
 behind_hidden step frames f cue [] sequence some up = tt

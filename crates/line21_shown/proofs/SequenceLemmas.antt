@@ -58,7 +58,7 @@ pub record IsCaption (cue : Cue) : Type 0 where
   pub line21 : is_line21 cue.kind ≡ true
   pub formed : IsCueFormed cue
 
--- the first of the cues begins behind a frame: a pop-on cue is shown, and another one is written from it on
+-- the first of the cues begins after a frame: a pop-on cue is shown, and another one is written from it on
 abbrev pub BeginFrom : ℕ → List Cue → Type 0
 BeginFrom a [] = ⊤
 BeginFrom a (cue ∷ later) = (is_pop cue.kind ≡ false → a ≤ cue.load) × (a ≤ cue.show)
@@ -82,12 +82,12 @@ last_shown in_field t a from hide g earlier on is low f above =
     only_hides None n = refl
     only_hides (Some h) n = refl
 
--- a HIDE that is there is behind SHOW
+-- a HIDE that is there is after SHOW
 hidden_behind : (hide : Option ℕ) (show load : ℕ) → IsSome hide → IfSome hide (λ h. show < h) → IfSome hide (λ h. h ≤ load) → suc show ≤ load
 hidden_behind None show load some later cleared = cc
 hidden_behind (Some h) show load some later cleared = omega arith
 
--- the cues behind a cue begin behind it
+-- the cues after a cue begin after it
 pub begin_behind_pop : (frames : ℕ) (cue : Cue) (later : List Cue) → is_pop cue.kind ≡ true → IsCueFormed cue → AreInSequence 1 frames (cue ∷ later)
     → BeginFrom (suc cue.show) later
 begin_behind_pop frames cue [] pop formed sequence = tt
@@ -200,7 +200,7 @@ channel_shown slots channel cues placed formed sequence stands_so k settled =
     (begins channel cues placed stands_so) (empty_first t) (omega arith) k (omega arith) settled
     ∙ authored_is channel cues k
 
--- a channel of a placed list that keeps the rules, behind the slots that have come by a settled frame
+-- a channel of a placed list that keeps the rules, after the slots that have come by a settled frame
 slots_shown : (list : Listing) (channel : Chan) (placed : List ℕ) → IsFormed list → IsRuled list → IsChannelPlaced channel (slot_cues list channel) placed
     → (f m : ℕ) → slot_from (cadence_of list.rate channel) (suc f) ≡ m → IsSettled channel list.cues f
     → (acts (channel_timeline list channel placed) m).displayed ≡ authored_grid channel list.cues f

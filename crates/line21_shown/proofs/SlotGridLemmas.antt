@@ -68,7 +68,7 @@ reverse_in_slots c (cue ∷ cues) =
     ∙ sym (map-append (timed_in_slots c) (reverse cues) (cue ∷ []))
     ∙ ap (cues_in_slots c) (sym (reverse-cons cue cues))
 
--- behind frame f so many slots have come
+-- after frame f this many slots have come
 module _ (c : Cadence) (f m : ℕ) (come : slot_from c (suc f) ≡ m) where
   -- a time whose slot has come has come
   pub has_come : (s : ℕ) → slot_from c s < m → s ≤ f
@@ -102,7 +102,7 @@ module _ (c : Cadence) (f m : ℕ) (come : slot_from c (suc f) ≡ m) where
       by_late : f < cue.show → nat_le cue.show f ≡ false
       by_late late = grind (arith, nat_tests)
 
--- at a frame behind slot k
+-- at a frame after slot k
 module _ (c : Cadence) (f k : ℕ) (come : slot_from c (suc f) ≡ suc k) where
   same_test : (s : ℕ) → has_slot_in c s ≡ true → nat_le (slot_from c s) k ≡ nat_le s f
   same_test s some =

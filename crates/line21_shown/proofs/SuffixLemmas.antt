@@ -44,7 +44,7 @@ chunks_are channel number (cue ∷ cues) = by_test (is_on channel cue.kind) (chu
     by_test true rest = (number, channel_chunks_from channel (suc number) cues, refl, rest)
     by_test false rest = rest
 
--- the chunks stand one behind the other from frame a on, each within its time and in a free slot
+-- the chunks stand one after the other from frame a on, each within its time and in a free slot
 abbrev pub ArePlacedFrom : List Event → ℕ → List FieldChunk → List ℕ → Type 0
 ArePlacedFrom events a [] [] = ⊤
 ArePlacedFrom events a [] (f ∷ fs) = ⊥
@@ -67,7 +67,7 @@ placed_from events before a (chunk ∷ chunks) (f ∷ fs) low placed =
       placed_from events (before ++ (chunk, f) ∷ []) (suc f) chunks fs (omega (arith, end_push before chunk f, some_slot f chunk)) placed.1,
     )
 
--- chunks and those behind them, each with their frames
+-- chunks and those after them, each with their frames
 pub record Parts (events : List Event) (a : ℕ) (chunks more : List FieldChunk) (fs : List ℕ) : Type 0 where
   pub front : List ℕ
   pub back : List ℕ
@@ -106,7 +106,7 @@ raised events a b P (chunk ∷ chunks) [] from all placed = placed
 raised events a b P (chunk ∷ chunks) (f ∷ fs) from all placed =
     (from chunk f (All-head P chunk chunks all) placed.1 placed.3, placed.1, placed.2, placed.3, placed.4)
 
--- what is free of events is free of those behind them
+-- what is free of events is free of those after them
 free_behind : (events more : List Event) (n : ℕ) → IsFree (events ++ more) n → IsFree more n
 free_behind [] more n free = free
 free_behind (event ∷ events) more n free = free_behind events more n free.2
@@ -145,7 +145,7 @@ stands_high events a z n (chunk ∷ chunks) (f ∷ fs) placed all above =
     stands_at chunk chunks f fs n false test
     ∙ stands_high events (suc f) z n chunks fs placed.4 (All-tail (λ (p : FieldChunk). p.until ≡ z) chunk chunks all) above
 
--- what stands of chunks and those behind them
+-- what stands of chunks and those after them
 pub stands_parts : (events : List Event) (a n : ℕ) (chunks more : List FieldChunk) (front back : List ℕ) → ArePlacedFrom events a chunks front
     → stands (chunks ++ more) (front ++ back) n ≡ option_or (stands chunks front n) (stands more back n)
 stands_parts events a n [] more [] back placed = refl
@@ -210,12 +210,12 @@ loads_from frames b (cue ∷ (next ∷ later)) chunks sequence from are =
 abbrev pub showing_unit : FieldNumber → Unit
 showing_unit in_field = record { pair = pair_of_code in_field (first_channel Eoc); doubled = true }
 
--- what begins at a frame of an event and those behind it
+-- what begins at a frame of an event and those after it
 event_first : (in_field : FieldNumber) (frame : ℕ) (events : List Event) (n : ℕ) (b : Bool) → (n == frame) ≡ b
     → event_at (control_event in_field frame Eoc ∷ events) n ≡ (if b then Some (showing_unit in_field) else event_at events n)
 event_first in_field frame events n b test = rw test refl
 
--- what hides, and the events behind it: where the next cue replaces what is shown, nothing hides it
+-- what hides, and the events after it: where the next cue replaces what is shown, nothing hides it
 hide_first : (in_field : FieldNumber) (hide : Option ℕ) (cue : Cue) (later : List Cue) (events : List Event) (n : ℕ) → is_pop cue.kind ≡ true
     → event_at events cue.show ≡ Some (showing_unit in_field)
     → event_at (hide_events in_field hide (cue ∷ later) ++ events) n ≡ (if n == cue.show then Some (showing_unit in_field) else option_or (erases in_field hide n) (event_at events n))
@@ -246,11 +246,11 @@ hide_first in_field (Some hide) cue later events n pop shows = rw pop (by_test (
         go false test true at = rw (test, at) refl
         go false test false at = rw (test, at) refl
 
--- the events behind what shows a pop-on cue
+-- the events after what shows a pop-on cue
 abbrev pub events_behind : FieldNumber → Cue → List Cue → List Event
 events_behind in_field cue later = hide_events in_field cue.hide later ++ cue_events in_field later
 
--- the events of a pop-on cue and of those behind it
+-- the events of a pop-on cue and of those after it
 pub pop_events : (in_field : FieldNumber) (cue : Cue) (later : List Cue) → is_pop cue.kind ≡ true
     → cue_events in_field (cue ∷ later) ≡ control_event in_field cue.show Eoc ∷ events_behind in_field cue later
 pop_events in_field cue later pop = rw pop refl
@@ -291,7 +291,7 @@ module _ (in_field : FieldNumber) (hide : Option ℕ) (cue : Cue) (later : List 
   pub at_show : event_at all_events cue.show ≡ Some (showing_unit in_field)
   at_show = let test : (cue.show == cue.show) ≡ true = grind (arith, nat_tests) in all_at cue.show ∙ rw test refl
 
-  -- behind SHOW the events behind it begin
+  -- after SHOW the events after it begin
   pub behind_show : IfSome hide (λ h. h ≤ cue.show) → (n : ℕ) → cue.show < n → event_at all_events n ≡ event_at rest n
   behind_show hidden n above =
       let test : (n == cue.show) ≡ false = grind (arith, nat_tests) in
@@ -301,7 +301,7 @@ module _ (in_field : FieldNumber) (hide : Option ℕ) (cue : Cue) (later : List 
       over None hidden = refl
       over (Some h) hidden = let other : (n == h) ≡ false = grind (arith, nat_tests) in rw other refl
 
--- events and those behind them
+-- events and those after them
 from-append : (n : ℕ) (events more : List Event) → AreFrom n events → AreFrom n more → AreFrom n (events ++ more)
 from-append n [] more from too = too
 from-append n (event ∷ events) more from too = (from.0, from-append n events more from.1 too)
@@ -338,7 +338,7 @@ events_from in_field frames cue (next ∷ later) sequence =
     next_shown next [] behind sequence = let shown : next.load < next.show = sequence.loaded in omega arith
     next_shown next (third ∷ later) behind sequence = let shown : next.load < next.show = sequence.0.loaded in omega arith
 
--- the events of a cue that isn't pop-on, and of those behind it
+-- the events of a cue that isn't pop-on, and of those after it
 pub plain_events : (in_field : FieldNumber) (cue : Cue) (later : List Cue) → is_pop cue.kind ≡ false
     → cue_events in_field (cue ∷ later) ≡ events_behind in_field cue later
 plain_events in_field cue later plain = rw plain refl
@@ -354,7 +354,7 @@ plain_at in_field (Some hide) cue later events n plain = rw plain (by_test (n ==
     by_test true test = rw test refl
     by_test false test = rw test refl
 
--- the frame from which on a cue that isn't pop-on is written: its LOAD, or behind the HIDE of the former cue
+-- the frame from which on a cue that isn't pop-on is written: its LOAD, or after the HIDE of the former cue
 abbrev pub writes_from : Option ℕ → ℕ → ℕ
 writes_from None load = load
 writes_from (Some hide) load = max load (suc hide)

@@ -21,7 +21,7 @@ use Rattle.line21_screen.specs.Grid.{Grid, with_cell}
 use Rattle.line21_shown.specs.Doing.{does, does_all}
 use Rattle.line21_shown.proofs.CanvasLemmas.{Captions, canvas, pen_at, cell_of, character_on, special_on, extended_on}
 
--- codes behind codes
+-- codes after codes
 pub does_all-append : (codes more : List Code) (s : ChannelState) → does_all (codes ++ more) s ≡ does_all more (does_all codes s)
 does_all-append [] more s = refl
 does_all-append (code ∷ codes) more s = does_all-append codes more (does code s)
@@ -95,7 +95,7 @@ abbrev pub with_text : Grid → ℕ → ℕ → Style → List ℕ → Grid
 with_text g row col style [] = g
 with_text g row col style (ch ∷ text) = with_text (with_cell g row col (cell_of ch style)) row (col + 1) style text
 
--- a character and those behind it
+-- a character and those after it
 next_on : (k : Captions) (o : Grid) (b : ℕ) (g : Grid) (row col : ℕ) (style : Style) (ch : ℕ) (rest : List Spelling) (spelling : Option Spelling)
     → spelling_of ch ≡ spelling → IsSome spelling → col < 32
     → do_spellings (cons_option spelling rest) (canvas k o b g (pen_at row col style))

@@ -27,7 +27,7 @@ uncovered run rows r c some room outside = let other : (r == run.row) ≡ false 
 pub run_within : (run : Run) (g : Grid) (rows : ℕ) → 1 ≤ rows → rows ≤ run.row → IsWithin g rows run.row → IsWithin (with_run run g) rows run.row
 run_within run g rows some room within r c outside = rw (uncovered run rows r c some room outside) (within r c outside)
 
--- behind a run a row is held as before
+-- after a run a row is held as before
 held_behind : (k : Captions) (b : ℕ) (run : Run) (g : Grid) (row : ℕ) → IsHeld k b g run.row → IsHeld k b g row → IsHeld k b (with_run run g) row
 held_behind pop_on b run g row held too = tt
 held_behind paint_on b run g row held too = tt

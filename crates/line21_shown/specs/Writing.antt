@@ -28,12 +28,12 @@ abbrev pub with_runs : List Run → Grid → Grid
 with_runs [] g = g
 with_runs (run ∷ runs) g = with_runs runs (with_run run g)
 
--- the pen behind a run: behind its last character, with its style
+-- the pen after a run: after its last character, with its style
 abbrev pub pen_behind : Pen → Run → PenState → PenState
 pen_behind (Line21 style) run pen = record { row = run.row; col = end_column run; style = style }
 pen_behind (Dtv italic underline) run pen = pen
 
--- the pen behind runs
+-- the pen after runs
 abbrev pub pen_behind_all : List Run → PenState → PenState
 pen_behind_all [] pen = pen
 pen_behind_all (run ∷ runs) pen = pen_behind_all runs (pen_behind run.pen run pen)
@@ -52,7 +52,7 @@ pub record IsOpen (row : ℕ) (s : ChannelState) : Type 0 where
   pub mode : TakesRow s.mode row s
 
 -- the codes of runs write exactly the cells of the runs into the memory that the mode writes, whatever stood there, and
--- leave the pen behind the last of them: with any pens, characters and columns, in each of the modes
+-- leave the pen after the last of them: with any pens, characters and columns, in each of the modes
 abbrev pub RunsAreWritten : Type 0
 RunsAreWritten = (runs : List Run) (s : ChannelState) → All IsLine21Run runs → All (λ run. IsOpen run.row s) runs
     → does_all (flat_map run_codes runs) s ≡ with_pen (pen_behind_all runs s.pen) (edited (with_runs runs) s)

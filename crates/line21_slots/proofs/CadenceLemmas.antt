@@ -74,7 +74,7 @@ has_slot_exactly c d f is =
     subst (λ (e : Cadence). (has_slot_in d f ≡ true) ↔ ((k : ℕ) × (slot_frame e k ≡ f))) (sym is)
     (λ has. (slot_from d f, own_frame d f has), λ some. frame_has_slot d some.0 f some.1)
 
--- behind a frame with a slot there is one slot more, and behind another frame there is none
+-- after a frame with a slot there is one slot more, and after another frame there is none
 pub slot_more : (c : Cadence) (f : ℕ) → has_slot_in c f ≡ true → slot_from c (suc f) ≡ suc (slot_from c f)
 slot_more EveryFrame f has = refl
 slot_more EvenFrames f has = let even : f % 2 ≡ 0 = eqb-true (f % 2) 0 has in omega arith

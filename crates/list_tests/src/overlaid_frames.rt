@@ -5,7 +5,7 @@ use std::test::Fail;
 
 const NULL: Pair = Pair { a: 0x80, b: 0x80 };
 
-/// So many frames with a null in each field.
+/// This many frames with a null in each field.
 #[derive(Drop)]
 struct Nulls(u8);
 
@@ -27,7 +27,7 @@ impl Frames for Nulls {
     }
 }
 
-/// A pair in field 2 of each of so many frames.
+/// A pair in field 2 of each of this many frames.
 #[derive(Drop)]
 struct Marks(u8);
 

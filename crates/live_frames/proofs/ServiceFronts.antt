@@ -148,7 +148,7 @@ loads_below n frame low (each ∷ placed) = at (ltb each.1 n) refl (loads_below 
     at true is rest = ap (λ (l : List ℕ). (if each.1 == frame then each.0.unit else []) ++ l) rest
     at false is rest = let test : (each.1 == frame) ≡ false = grind (arith, nat_tests) in rw test rest
 
--- the units of cues, and of those behind them
+-- the units of cues, and of those after them
 chunks_append : (rate : Rate) (service number : ℕ) (cues more : List Cue)
     → (next : ℕ) × (service_chunks_from rate service number (cues ++ more)
     ≡ service_chunks_from rate service number cues ++ service_chunks_from rate service next more)

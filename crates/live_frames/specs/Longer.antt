@@ -8,7 +8,7 @@ use Rattle.frame_carrier.specs.Planned.{IsListPlaced, Placement, columns_of}
 use Rattle.frame_carrier.specs.Carrying.{column_bytes}
 use Rattle.live_frames.specs.LaneFronts.{AreLoadedFrom}
 
--- the list of so many frames that has the cues of another, and after them these
+-- the list of this many frames that has the cues of another, and after them these
 abbrev pub longer : Listing → ℕ → List Cue → Listing
 longer list frames more = record list { frames = frames; cues = list.cues ++ more }
 

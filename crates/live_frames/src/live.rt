@@ -123,7 +123,7 @@ fn judge(alloc: Global, list: &CueList, load: u32, frame: u32) -> Result<Plan, L
     }
 }
 
-/// A plan after so many of its frames, or after all that it has.
+/// A plan after this many of its frames, or after all that it has.
 fn skipped(mut plan: Plan, frames: u32) -> Plan
     ensures gives { (columns : Columns) → GivesFrom columns 0 plan → frames ≤ frames_left plan
         → GivesFrom columns frames result }

@@ -1,5 +1,5 @@
 -- The units of a load's captions on a channel have a placement: those of caption k in the slots from 90 k on, and each event stands
--- 60 slots behind a multiple of 90.
+-- 60 slots after a multiple of 90.
 use Rattle.std.proofs.Common.{◌≡◌, ℕ, zero, suc, ◌+◌, ◌*◌, ◌<◌, ◌≤◌, ◌%◌, Bool, true, false, List, [], ◌∷◌, ◌++◌, map, Option, Some, None, refl, arith}
 use Rattle.std.specs.Prelude.{IfSome}
 use Rattle.std.specs.List.{AllByRecursion, range_with_len}
@@ -29,7 +29,7 @@ use Rattle.load_commands.proofs.UnitCountLemmas.{units_few}
 abbrev captions : ℕ → ℕ → List Cue
 captions a n = map (timed_in_slots EveryFrame) (map load_cue (range_with_len a n))
 
--- a cue that is shown and hidden 60 slots behind a multiple of 90
+-- a cue that is shown and hidden 60 slots after a multiple of 90
 record IsOnBeat (cue : Cue) : Type 0 where
   show : cue.show % 90 ≡ 60
   hide : IfSome cue.hide (λ hide. hide % 90 ≡ 60)
@@ -64,7 +64,7 @@ events_beat in_field (cue ∷ later) beat =
     (hide_beat in_field cue.hide later beat.0.hide))
     (events_beat in_field later beat.1)
 
--- the slots up to 58 behind a multiple of 90 are free
+-- the slots up to 58 after a multiple of 90 are free
 beat_free : (events : List Event) (n : ℕ) → AreOnBeat events → n % 90 < 58 → IsFree events n
 beat_free [] n beat low = tt
 beat_free (event ∷ events) n beat low =

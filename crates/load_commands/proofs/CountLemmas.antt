@@ -1,4 +1,4 @@
--- One more frame: its packet and its bytes stand behind those of the frames before, and its change is counted.
+-- One more frame: its packet and its bytes follow those of the frames before, and its change is counted.
 use Rattle.std.proofs.Common.{◌≡◌, ◌∙◌, ℕ, zero, suc, ◌+◌, if◌then◌else◌, List, [], ◌∷◌, ◌++◌, ap, sym, arith, append_assoc, append-nil}
 use Rattle.cc_base.specs.declared.rate.Rate.{Rate}
 use Rattle.cdp_packets.specs.Packets.{Frame}
@@ -40,7 +40,7 @@ pub bytes_more : (rate : Rate) (columns : Columns) (n : ℕ)
     → column_bytes rate columns 0 (suc n) ≡ column_bytes rate columns 0 n ++ bytes_at rate columns n
 bytes_more rate columns n = bytes_from rate columns 0 n n (omega arith)
 
--- 1 where the screens differ behind one more frame
+-- 1 where the screens differ after one more frame
 abbrev change_of : List Frame → Frame → ℕ
 change_of before next = if screens_differ (received_screens before) (received_screens (before ++ next ∷ [])) then 1 else 0
 

@@ -1,4 +1,4 @@
--- Units of a service's lane that have a frame each, one behind another, stand there, where each fits into the frame's room and no delay
+-- Units of a service's lane that have a frame each, one after another, stand there, where each fits into the frame's room and no delay
 -- is on.
 use Rattle.std.proofs.Common.{◌≡◌, ℕ, ◌+◌, ◌<◌, ◌≤◌, false, List, [], ◌∷◌, ◌++◌, length, Option, Some, refl, arith}
 use Rattle.std.specs.List.{AllByRecursion}
@@ -46,11 +46,11 @@ pub record IsWithin (low high : ℕ) (chunk : ServiceChunk) : Type 0 where
 abbrev pub IsUndelayed : (ℕ → Option ℕ) → ℕ → Type 0
 IsUndelayed ends frame = (start end : ℕ) → ends start ≡ Some end → start ≤ frame → frame < end → ⊥
 
--- units behind others have a placement
+-- units after others have a placement
 abbrev pub HasFramesBehind : (ℕ → ℕ) → (ℕ → Option ℕ) → List (ServiceChunk × ℕ) → List ServiceChunk → Type 0
 HasFramesBehind room ends before chunks = (frames : List ℕ) × IsPlaced (IsAllowedInService room ends) before chunks frames
 
--- units that have a frame each from a frame on, and those behind them
+-- units that have a frame each from a frame on, and those after them
 pub one_each : (room : ℕ → ℕ) (ends : ℕ → Option ℕ) (low high from : ℕ) (chunks later : List ServiceChunk) (before : List (ServiceChunk × ℕ)) → AreBefore from before
     → low ≤ from → from + length chunks ≤ high → AllByRecursion (IsWithin low high) chunks → ((frame : ℕ) → 7 ≤ room frame)
     → ((frame : ℕ) → low ≤ frame → frame < high → IsUndelayed ends frame)

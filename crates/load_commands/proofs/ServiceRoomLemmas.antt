@@ -1,5 +1,5 @@
 -- The units of a load's captions in windows have a placement: those of caption k in the frames from 90 k on, and each delay is on from
--- 30 frames behind a multiple of 90 up to 60 behind it.
+-- 30 frames after a multiple of 90 up to 60 after it.
 use Rattle.std.proofs.Common.{◌≡◌, ◌∙◌, ap, ℕ, zero, suc, ◌+◌, ◌*◌, ◌<◌, ◌≤◌, ◌%◌, ◌==◌, Bool, true, false, List, [], ◌∷◌, ◌++◌, length, map, refl, subst, arith, eqb-true}
 use Rattle.std.specs.List.{AllByRecursion, cons_option, range_with_len}
 use Rattle.std.proofs.lemmas.List.{length-map}
@@ -24,7 +24,7 @@ use Rattle.load_commands.proofs.UnitCountLemmas.{turned, window_units_count, win
 abbrev cues : ℕ → ℕ → List Cue
 cues a n = map load_cue (range_with_len a n)
 
--- a caption whose delay lasts 30 frames, from 30 behind a multiple of 90 on
+-- a caption whose delay lasts 30 frames, from 30 after a multiple of 90 on
 record IsOnBeat (c : Caption) : Type 0 where
   starts : c.starts % 90 ≡ 30
   show : c.show ≡ c.starts + 30
@@ -43,7 +43,7 @@ on_beat : (service a n : ℕ) → AllByRecursion IsOnBeat (service_captions F299
 on_beat service a zero = tt
 on_beat service a (suc n) = beat_more service a (a % 3) (service_captions F2997 service (cues (a + 1) n)) (on_beat service (a + 1) n)
 
--- no delay is on in the first 30 frames behind a multiple of 90
+-- no delay is on in the first 30 frames after a multiple of 90
 beat_undelayed : (cs : List Caption) (frame : ℕ) → AllByRecursion IsOnBeat cs → frame % 90 < 30 → IsUndelayed (delay_end cs) frame
 beat_undelayed cs frame beat low start end is from to =
     let delayed = delay_is_of cs start end is in
@@ -71,7 +71,7 @@ module _ (cs : List Caption) (beat : AllByRecursion IsOnBeat cs) where
   abbrev HasFrames : List (ServiceChunk × ℕ) → List ServiceChunk → Type 0
   HasFrames before chunks = HasFramesBehind (frame_room 31 cs) (delay_end cs) before chunks
 
-  -- a caption of a load, and units behind its own
+  -- a caption of a load, and units after its own
   cue_placed : (number a turn : ℕ) (later : List ServiceChunk) (before : List (ServiceChunk × ℕ)) → AreBefore (90 * a) before
       → ((after : List (ServiceChunk × ℕ)) → AreBefore (90 * (a + 1)) after → HasFrames after later)
       → HasFrames before (service_cue_chunks F2997 1 number (turned a turn) ++ later)

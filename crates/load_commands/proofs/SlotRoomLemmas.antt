@@ -1,4 +1,4 @@
--- Units of a field's lane that have two slots each, one behind another, stand there, where no event holds these slots.
+-- Units of a field's lane that have two slots each, one after another, stand there, where no event holds these slots.
 use Rattle.std.proofs.Common.{ℕ, ◌+◌, ◌*◌, ◌<◌, ◌≤◌, Bool, true, false, if◌then◌else◌, List, [], ◌∷◌, ◌++◌, length, arith}
 use Rattle.std.specs.List.{AllByRecursion}
 use Rattle.line21_author.specs.declared.event.Event.{Event}
@@ -21,11 +21,11 @@ pub record IsWithin (low high : ℕ) (chunk : FieldChunk) : Type 0 where
   pub load : chunk.load ≤ low
   pub until : high ≤ chunk.until
 
--- units behind others have a placement
+-- units after others have a placement
 abbrev pub HasSlotsBehind : List Event → List (FieldChunk × ℕ) → List FieldChunk → Type 0
 HasSlotsBehind events before chunks = (slots : List ℕ) × IsPlaced (field_lane events) before chunks slots
 
--- units that have two slots each from a slot on, and those behind them
+-- units that have two slots each from a slot on, and those after them
 pub two_each : (events : List Event) (low high from : ℕ) (chunks later : List FieldChunk) (before : List (FieldChunk × ℕ)) → end_of before ≤ from → low ≤ from
     → from + 2 * length chunks ≤ high → AllByRecursion (IsWithin low high) chunks → ((n : ℕ) → low ≤ n → n < high → IsFree events n)
     → ((after : List (FieldChunk × ℕ)) → end_of after ≤ high → HasSlotsBehind events after later) → HasSlotsBehind events before (chunks ++ later)

@@ -35,7 +35,7 @@ words_are rate columns count frame old words at is are =
     are rate count (packets_before columns count) at
     ∙ ap (λ (f : FrameBytes). frame_bytes rate count f (channel_packet (packets_before columns count) f.blocks.items)) is
 
--- a receiver that was fed a whole file is behind its frames
+-- a receiver that was fed a whole file is after its frames
 pub behind_whole : (rate : Rate) (columns : Columns) (count : ℕ) (receiver : Receiver) → AreWhole rate columns count
     → HasReceived (column_bytes rate columns 0 count) receiver → IsBehind (column_packets rate columns 0 count) receiver
 behind_whole rate columns count receiver whole received = record {

@@ -1,5 +1,5 @@
 -- Believed: the program's answer stands on these definitions.
--- The list of a load: so many captions, in turn pop-on on CC1, in a window of service 1 behind a delay of a second, and paint-on
+-- The list of a load: this many captions, in turn pop-on on CC1, in a window of service 1 after a delay of a second, and paint-on
 -- on CC3, one every 90 frames at 29.97 frames a second.
 use Rattle.std.specs.Prelude.{ℕ, zero, suc, ◌+◌, ◌*◌, ◌%◌, false, List, [], ◌∷◌, map, Some, None}
 use Rattle.std.specs.List.{range_with_len}
@@ -37,7 +37,7 @@ line21_run row col colour text = record {
   colors = None;
 }
 
--- the window of caption k, behind a delay of a second: two rows of 32 columns, under eight numbers one after another
+-- the window of caption k, after a delay of a second: two rows of 32 columns, under eight numbers one after another
 abbrev pub load_window : ℕ → WinCue
 load_window k = record {
   service = 1;
@@ -76,7 +76,7 @@ load_cue k = record {
   runs = load_run k (k % 3) ∷ [];
 }
 
--- the list of so many captions
+-- the list of this many captions
 abbrev pub load_list : ℕ → Listing
 load_list count = record {
   rate = rate.F2997;

@@ -11,7 +11,7 @@ use Rattle.grid_print.specs.Screens.{received_screens}
 use Rattle.load_commands.specs.LoadList.{load_list}
 use Rattle.load_commands.specs.declared.summary.Summary.{Summary}
 
--- the number of frames at which the screens differ from those of the frame before, of frames that come behind others: just at these
+-- the number of frames at which the screens differ from those of the frame before, of frames that follow others: just at these
 -- `decode` prints something; before the first frame of all, every screen is empty and no window is shown
 abbrev pub change_count : List Frame → List Frame → ℕ
 change_count before [] = 0
@@ -25,7 +25,7 @@ summary_text summary =
     text (codes "cues " ∷ decimal summary.cues ∷ codes "\nframes " ∷ decimal summary.frames ∷ codes "\nbytes " ∷ decimal summary.bytes
     ∷ codes "\nchanges " ∷ decimal summary.changes ∷ codes "\n" ∷ [])
 
--- the summary of the list of so many captions, whose units stand in their earliest placement: its captions, its frames, the bytes that
+-- the summary of the list of this many captions, whose units stand in their earliest placement: its captions, its frames, the bytes that
 -- `build` puts of it, and the changes of the frames that these words carry
 pub record IsSummaryOf (count : ℕ) (summary : Summary) : Type 0 where
   pub placed : Placement

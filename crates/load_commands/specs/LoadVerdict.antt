@@ -6,7 +6,7 @@ use Rattle.command_base.specs.declared.status.Status.TheVariants as status
 use Rattle.load_commands.specs.LoadOutput.{IsSummaryOf, summary_text}
 use Rattle.load_commands.specs.declared.summary.Summary.{Summary}
 
--- these are the lines of the list of so many captions
+-- these are the lines of the list of this many captions
 abbrev pub AreLoadLines : ℕ → List ℕ → Type 0
 AreLoadLines count text = (summary : Summary) × IsSummaryOf count summary × (text ≡ summary_text summary)
 

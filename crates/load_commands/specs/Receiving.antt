@@ -20,7 +20,7 @@ use Rattle.words_files.specs.Offences.{IsFileUnder}
 use Rattle.load_commands.specs.LoadOutput.{change_count}
 use Rattle.load_commands.specs.declared.reception.Reception.{Reception}
 
--- so many frames of columns are a whole words file
+-- this many frames of columns are a whole words file
 abbrev pub AreWhole : Rate → Columns → ℕ → Type 0
 AreWhole rate columns count = IsFileUnder caption_channel (column_packets rate columns 0 count) (column_bytes rate columns 0 count)
 
@@ -28,7 +28,7 @@ AreWhole rate columns count = IsFileUnder caption_channel (column_packets rate c
 abbrev pub AreAllWhole : Rate → Columns → ℕ → Type 0
 AreAllWhole rate columns count = (first : ℕ) → first ≤ count → AreWhole rate columns first
 
--- the first frames of columns, so many, were carried and fed, and their changes counted
+-- the first frames of columns, this many, were carried and fed, and their changes counted
 pub record HasReceivedColumns (rate : Rate) (columns : Columns) (count : ℕ) (reception : Reception) : Type 0 where
   pub carrier : IsAt rate count (packets_before columns count) reception.carrier
   pub received : HasReceived (column_bytes rate columns 0 count) reception.receiver

@@ -15,8 +15,8 @@ const PERIOD: u32 = 90;
 /// Letters of a caption.
 const LETTERS: u32 = 20;
 
-/// The list of so many captions, 1 to 10,000: in turn pop-on on CC1, in a window of service 1 behind a delay of a second, and
-/// paint-on on CC3, one every 90 frames. The error comes where memory for it isn't found.
+/// The list of this many captions, 1 to 10,000: in turn pop-on on CC1, in a window of service 1 after a delay of a second, and
+/// paint-on on CC3, one every 90 frames. The error comes if memory for it isn't found.
 pub fn load_list(alloc: Global, count: u32) -> Result<CueList, AllocError>
     requires some { 1 ≤ count }
     requires most { count ≤ most_load }

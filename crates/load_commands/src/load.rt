@@ -14,7 +14,7 @@ use cue_list_commands::read_programme;
 use cue_lists::print;
 use std::alloc::{AllocError, Global};
 
-/// Makes the list of so many captions, 1 to 10,000, writes it, reads it as any other list, plans it, carries each of its frames,
+/// Makes the list of this many captions, 1 to 10,000, writes it, reads it as any other list, plans it, carries each of its frames,
 /// and feeds their words to a receiver. Puts the number of captions, that of frames, the bytes of words that were fed, and the
 /// frames that `decode` would print, a line each.
 ///
@@ -35,7 +35,7 @@ pub fn run_load<O: Sink>(alloc: Global, count: u32, out: &mut O) -> Status
     }
 }
 
-/// What comes of the list of so many captions.
+/// What comes of the list of this many captions.
 fn load(alloc: Global, count: u32) -> Result<Summary, AllocError>
     requires some { 1 ≤ count }
     requires most { count ≤ most_load }

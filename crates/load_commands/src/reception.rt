@@ -85,7 +85,7 @@ pub(crate) fn receive(alloc: Global, programme: Programme<Plan>) -> Result<Recep
     Ok(reception)
 }
 
-/// Feeds words of which none offends behind those that were fed.
+/// Feeds words of which none offends after those that were fed.
 fn feed_all(receiver: &mut Receiver, words: &[u8])
     requires { MayTake receiver.now words.now }
     ensures received { (before : List ℕ) → HasReceived before receiver.old

@@ -163,7 +163,7 @@ module _ (in_field : FieldNumber) (t : Timeline) (a : ℕ) (hide : Option ℕ) (
       alone None = refl
       alone (Some unit) = refl
 
-  -- another timeline before it goes on with the cue too
+  -- another timeline before it continues with the cue too
   pub goes_on : (h : Timeline) → Continues in_field (joined is.slot h t) is.slot hide (cue ∷ later)
   goes_on h = record {
     chunks = is.chunk ∷ is.rest;

@@ -1,4 +1,4 @@
--- From slots to frames, at all rates: a channel of a list is shown again behind lost frames (CTA-608-E, 47 CFR 79.101; a field has a slot in
+-- From slots to frames, at all rates: a channel of a list is shown again after lost frames (CTA-608-E, 47 CFR 79.101; a field has a slot in
 -- each frame, or in every other one: SMPTE ST 334-2).
 use Rattle.std.proofs.Common.{◌≡◌, ℕ, zero, suc, ◌+◌, ◌-◌, ◌<◌, ◌≤◌, inl, Bool, true, false, if◌then◌else◌, List, [], ◌∷◌, ◌++◌, reverse, take, Option, Some, None, refl, sym, ap, ◌∙◌, subst, arith, append-nil, append_assoc, option_map}
 use Rattle.std.specs.Prelude.{is_none, option_to_list}
@@ -55,7 +55,7 @@ use Rattle.lost.proofs.HeardLemmas.{heard_new, heard_read, pairs_from}
 use Rattle.lost.proofs.IdleLemmas.{idle_on}
 use Rattle.lost.proofs.RowsBackLemmas.{all_behind, back_shown, newest_back}
 
--- the pairs of so many slots from one on, behind those before
+-- the pairs of this many slots from one on, after those before
 column_more : (t : Timeline) (a k n : ℕ) → a + k ≡ n → column t n ≡ column t a ++ reverse (pairs_from (slot t) a k)
 column_more t a zero n is =
     let same : n ≡ a = omega arith in ap (column t) same ∙ sym (append-nil (column t a))
@@ -113,7 +113,7 @@ chain_in_slots c cue (former ∷ earlier) =
     by_test true rest = ap (λ (l : List Cue). timed_in_slots c cue ∷ l) rest
     by_test false rest = refl
 
--- cues that are loaded behind a lost frame are so in slots
+-- cues that are loaded after a lost frame are so in slots
 loaded_in_slots : (c : Cadence) (g n : ℕ) (cues : List Cue) → AllByRecursion (λ (cue : Cue). g < cue.load) (take n cues)
     → AllByRecursion (λ (cue : Cue). slot_from c (suc g) ≤ cue.load) (take n (cues_in_slots c cues))
 loaded_in_slots c g zero cues loaded = tt
@@ -144,7 +144,7 @@ module _ (list : Listing) (channel : Chan) (placed : List ℕ) (formed : IsForme
       (all_have_time (channel_events channel (slot_cues list channel)) 0 (channel_chunks channel (slot_cues list channel)) placed
       (placed_from (channel_events channel (slot_cues list channel)) [] 0 (channel_chunks channel (slot_cues list channel)) placed (omega arith) earliest.placed)))
 
-  -- each cue is found, behind those before it, which stand newest first
+  -- each cue is found, after those before it, which stand newest first
   found_at : (cue : Cue) (earlier later : List Cue) → reverse earlier ++ cue ∷ later ≡ all
       → IsFound (field_of_channel channel) t (slots_in_list list channel) cue later earlier
   found_at cue earlier later stands =
@@ -162,7 +162,7 @@ module _ (list : Listing) (channel : Chan) (placed : List ℕ) (formed : IsForme
   firsts n =
       slots_all IsFirstPair written_first (slot_cues list channel) channel placed (slot_cues_formed list formed channel) (subst IsForFirst (sym null_code) tt) n
 
-  -- a cue of the channel and those before and behind it, in slots
+  -- a cue of the channel and those before and after it, in slots
   stands_in_slots : (cue : Cue) (front behind : List Cue) → cues_on channel list.cues ≡ front ++ cue ∷ behind
       → reverse (cues_in_slots c (reverse front)) ++ timed_in_slots c cue ∷ cues_in_slots c behind ≡ all
   stands_in_slots cue front behind is =

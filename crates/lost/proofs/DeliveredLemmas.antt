@@ -1,4 +1,4 @@
--- Of the frames that came a concealing receiver hears just those behind the last one that is lost: their counters go on, and the counter of
+-- Of the frames that came a concealing receiver hears just those after the last one that is lost: their counters go on, and the counter of
 -- the first of them doesn't (SMPTE ST 334-2, cdp_hdr_sequence_cntr).
 use Rattle.std.proofs.Common.{◌≡◌, ◌∙◌, ℕ, zero, suc, ◌+◌, ◌%◌, ◌<◌, ◌≤◌, ◌==◌, if◌then◌else◌, Bool, true, false, List, [], ◌∷◌, ◌++◌, map, reverse, refl, sym, ap, subst, arith, append-nil, append_assoc}
 use Rattle.std.specs.List.{AllByRecursion, range_with_len}
@@ -12,7 +12,7 @@ use Rattle.services_shown.proofs.ToldLemmas.{packets_more}
 use Rattle.cc_conceal.specs.Concealed.{heard_back, heard_of}
 use Rattle.lost.specs.Delivered.{AreDelivered, IsLastLost, packet_of}
 
--- the packets of so many frames from one on, one by one
+-- the packets of this many frames from one on, one by one
 packets_are : (rate : Rate) (columns : Columns) (since count : ℕ)
     → map (packet_of rate columns) (range_with_len since count) ≡ column_packets rate columns since count
 packets_are rate columns since zero = refl
@@ -32,7 +32,7 @@ module _ (rate : Rate) (columns : Columns) where
   abbrev packet : ℕ → Frame
   packet = packet_of rate columns
 
-  -- the packets of so many frames from one on, newest first
+  -- the packets of this many frames from one on, newest first
   abbrev back : ℕ → ℕ → List Frame
   back since zero = []
   back since (suc n) = packet (since + n) ∷ back since n
@@ -44,7 +44,7 @@ module _ (rate : Rate) (columns : Columns) where
       ∙ reverse-append (column_packets rate columns since n) (packet (since + n) ∷ [])
       ∙ ap (λ (l : List Frame). packet (since + n) ∷ l) (turned since n)
 
-  -- where the first of them doesn't go on from what is behind it, all are heard, and no more
+  -- where the first of them doesn't go on from what is after it, all are heard, and no more
   heard_on : (since n : ℕ) (behind : List Frame) → heard_back (packet since ∷ behind) ≡ packet since ∷ []
       → heard_back (back since (suc n) ++ behind) ≡ back since (suc n)
   heard_on since zero behind anew =
@@ -80,7 +80,7 @@ module _ (rate : Rate) (columns : Columns) where
       ap (λ (r : List Frame). heard_back (packet (suc lost) ∷ r)) (sym (append-nil (reverse (map packet (k ∷ ks)))))
       ∙ anew_behind ks k lost count [] earlier delivered
 
-  -- so just the frames behind the lost one are heard
+  -- so just the frames after the lost one are heard
   pub hears_behind : (came : List ℕ) (lost frame : ℕ) → AreDelivered came → (last : IsLastLost came lost frame)
       → heard_of (map packet came) ≡ column_packets rate columns (suc lost) (suc last.count)
   hears_behind came lost frame delivered last =

@@ -43,7 +43,7 @@ abbrev pub newest_hide : List Cue → Option ℕ
 newest_hide [] = None
 newest_hide (cue ∷ earlier) = cue.hide
 
--- the timeline goes on with the cue and those behind it, from a frame on
+-- the timeline continues with the cue and those after it, from a frame on
 pub record IsFound (in_field : FieldNumber) (t : Timeline) (frames : ℕ) (cue : Cue) (later earlier : List Cue) : Type 0 where
   pub a : ℕ
   pub on : Continues in_field t a (newest_hide earlier) (cue ∷ later)
@@ -63,7 +63,7 @@ hide_is hide g (cue ∷ earlier) s is = is.0
 none_first : (cue : Cue) (earlier : List Cue) (a : ℕ) → cue ∷ earlier ≡ [] → a ≡ 0
 none_first cue earlier a is = cc
 
--- what is due behind a doubled unit
+-- what is due after a doubled unit
 pub due_behind : (o : Option Unit) (u : Unit) → o ≡ Some u → u.doubled ≡ true → repeat_of o ≡ Some u.pair
 due_behind o u is twice = ap repeat_of is ∙ rw twice refl
 
@@ -90,7 +90,7 @@ middle_none (Some u) y z is = cc
 
 module _ (in_field : FieldNumber) (t : Timeline) (captioned : IsCaptioned t) (frames a : ℕ) (hide : Option ℕ) (cue : Cue) (later : List Cue)
     (formed : IsCueFormed cue) (line21 : is_line21 cue.kind ≡ true) (sequence : AreInSequence 1 frames (cue ∷ later)) (on : Continues in_field t a hide (cue ∷ later)) where
-  -- behind a pop-on cue that is what shows it
+  -- after a pop-on cue that is what shows it
   pub last_pop : is_pop cue.kind ≡ true → a ≤ cue.show → (m : ℕ) (u : Unit) → m < suc cue.show → suc cue.show ≤ m + 2 → t m ≡ Some u → u.doubled ≡ true
       → IsOpening (code_of u.pair) → ⊥
   last_pop pop before m u below near there twice opens = at (m == cue.show) refl
@@ -110,7 +110,7 @@ module _ (in_field : FieldNumber) (t : Timeline) (captioned : IsCaptioned t) (fr
           let none : t (suc m) ≡ None = captioned.spaced m u.pair (due_behind (t m) u there twice) in
           let wrong : None ≡ Some (showing_unit in_field) = sym none ∙ ap t next ∙ shows in cc
 
-  -- behind another one its last unit
+  -- after another one its last unit
   pub last_plain : is_pop cue.kind ≡ false → (m : ℕ) (u : Unit) → m < cue.show → cue.show ≤ m + 2 → t m ≡ Some u → u.doubled ≡ true
       → IsOpening (code_of u.pair) → ⊥
   last_plain plain m u below near there twice opens = ⊎_elim early late (cases_lt m a)

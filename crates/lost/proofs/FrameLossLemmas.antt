@@ -1,5 +1,5 @@
--- What is authored is seen again behind frames that are lost: what a concealing receiver hears of each field and service is what the list
--- sends it in the frames behind the loss.
+-- What is authored is seen again after frames that are lost: what a concealing receiver hears of each field and service is what the list
+-- sends it in the frames after the loss.
 use Rattle.std.proofs.Common.{◌≡◌, ◌∙◌, ℕ, zero, suc, ◌+◌, ◌<◌, ◌⊎◌, inl, inr, List, [], ◌∷◌, ◌++◌, map, reverse, refl, sym, ap, subst, arith}
 use Rattle.std.specs.Prelude.{option_to_list}
 use Rattle.std.specs.List.{range_with_len, zip}
@@ -63,7 +63,7 @@ module _ (list : Listing) (placed : Placement) (formed : IsFormed list) (ruled :
       ∙ ap (map concealed) (pairs_since list.rate columns list.frames (list_carried list placed formed ruled is) in_field since count)
       ∙ between_plain list placed formed in_field since count
 
-  -- and what a service is told in them is what its lane sends
+  -- and what a service gets in them is what its lane sends
   lane_since : (service since count : ℕ)
       → told_since list.rate (λ frame. sent_to service (has_blocks list placed formed ruled services frame).sent) since count
       ≡ lane_events_since (list_lane list service (placed (Service service))) since count
@@ -84,7 +84,7 @@ module _ (list : Listing) (placed : Placement) (formed : IsFormed list) (ruled :
       ∙ since_told list.rate columns (has_blocks list placed formed ruled services) service since count
       ∙ lane_since service since count
 
-  -- behind a loss
+  -- after a loss
   field_heard : (in_field : FieldNumber) (since count : ℕ) → heard_of packets ≡ column_packets list.rate columns since count
       → concealed_field in_field packets ≡ state_from in_field columns since count
   field_heard in_field since count heard = ap (λ (pairs : List Pair). after in_field (reverse pairs)) (pairs_heard in_field since count heard)

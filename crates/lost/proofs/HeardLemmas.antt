@@ -16,7 +16,7 @@ use Rattle.lanes.specs.Timeline.{Timeline}
 use Rattle.line21_shown.specs.Reading.{acts, does_unit, first_alone, IsForFirst}
 use Rattle.line21_shown.proofs.ReadingLemmas.{code_step}
 
--- the pairs of so many slots from one on, the newest first
+-- the pairs of this many slots from one on, the newest first
 abbrev pub pairs_from : (ℕ → Pair) → ℕ → ℕ → List Pair
 pairs_from column from zero = []
 pairs_from column from (suc count) = column (from + count) ∷ pairs_from column from count

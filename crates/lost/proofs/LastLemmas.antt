@@ -13,7 +13,7 @@ record IsRow (k frame : ℕ) (came : List ℕ) : Type 0 where
   is : came ≡ range_with_len k (suc count)
   up_to : k + count ≡ frame
 
--- or the last lost one is behind the first of them
+-- or the last lost one is after the first of them
 record IsBroken (k frame : ℕ) (came : List ℕ) : Type 0 where
   lost : ℕ
   above : k < lost
@@ -110,7 +110,7 @@ none_there came lost frame last has = at (Contains-append_cases last.before (ran
         let low : suc lost ≤ lost = row_from (suc lost) (suc last.count) lost late in
         absurd (omega arith)
 
--- and each behind it did
+-- and each after it did
 all_there : (came : List ℕ) (lost frame k : ℕ) → IsLastLost came lost frame → lost < k → k ≤ frame → Contains came k
 all_there came lost frame k last above to =
     let up_to = last.up_to in

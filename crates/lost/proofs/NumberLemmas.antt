@@ -1,4 +1,4 @@
--- Counters tell how far a frame that came is behind the one before it, as fewer than 65,536 are missing between them.
+-- Counters tell how far a frame that came is after the one before it, as fewer than 65,536 are missing between them.
 use Rattle.std.proofs.Common.{◌≡◌, ◌∙◌, ℕ, suc, ◌+◌, ◌-◌, ◌%◌, ◌<◌, ◌≤◌, ◌==◌, if◌then◌else◌, Bool, true, false, List, [], ◌∷◌, ◌++◌, map, refl, ap, arith}
 use Rattle.std.proofs.lemmas.Bool.Decides.{nat_tests}
 use Rattle.cdp_packets.specs.Packets.{Frame}

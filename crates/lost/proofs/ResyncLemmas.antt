@@ -1,4 +1,4 @@
--- A channel is shown again from the SHOW of a cue on that is loaded behind a loss, and continues no other: at the cue's first unit the
+-- A channel is shown again from the SHOW of a cue on that is loaded after a loss, and continues no other: at the cue's first unit the
 -- receiver is in step, and what stands there does the cue no harm (CTA-608-E; 47 CFR 79.101).
 use Rattle.std.proofs.Common.{◌≡◌, ◌≢◌, ℕ, zero, suc, ◌+◌, ◌-◌, ◌<◌, ◌≤◌, inl, nat_lt, Bool, true, false, List, [], ◌∷◌, ◌++◌, Option, Some, None, refl, sym, ap, ◌∙◌, subst, arith, ⊎_elim}
 use Rattle.std.specs.Prelude.{⊤, ◌==◌, IfSome, IsSome}

@@ -1,5 +1,5 @@
--- A channel is shown again from the SHOW of a cue on where each cue of which something is seen with it was loaded behind a loss: of a roll-up
--- cue so many of its chain as it has rows (CTA-608-E; 47 CFR 79.101).
+-- A channel is shown again from the SHOW of a cue on where each cue of which something is seen with it was loaded after a loss: of a roll-up
+-- cue this many of its chain as it has rows (CTA-608-E; 47 CFR 79.101).
 use Rattle.std.proofs.Common.{◌≡◌, ℕ, zero, suc, ◌+◌, ◌-◌, ◌<◌, ◌≤◌, ◌⊎◌, ◌&&◌, ◌==◌, inl, inr, Bool, true, false, if◌then◌else◌, List, [], ◌∷◌, ◌++◌, Option, Some, None, reverse, take, refl, sym, ap, ◌∙◌, subst, arith, append-nil, append_assoc}
 use Rattle.std.specs.Prelude.{IsSome, is_none}
 use Rattle.std.specs.List.{AllByRecursion}
@@ -51,7 +51,7 @@ unhidden_before cue former onward = by_hide former.hide refl
 chain_on : (cue former : Cue) (earlier : List Cue) → continues cue former ≡ true → chain_of cue (former ∷ earlier) ≡ cue ∷ chain_of former earlier
 chain_on cue former earlier onward = ap (λ b. cue ∷ (if b then chain_of former earlier else [])) onward
 
--- cues behind those before them, which stand newest first
+-- cues after those before them, which stand newest first
 one_before : (former : Cue) (earlier rest : List Cue) → reverse earlier ++ former ∷ rest ≡ reverse (former ∷ earlier) ++ rest
 one_before former earlier rest =
     sym (append_assoc (reverse earlier) (former ∷ []) rest) ∙ ap (λ (l : List Cue). l ++ rest) (sym (reverse-append (former ∷ []) earlier))
@@ -125,7 +125,7 @@ module _ (in_field : FieldNumber) (t : Timeline) (captioned : IsCaptioned t) (fi
             (rows_next channel rows cue (chain_of former earlier) (acts up.own former.show) kind of_kind.1 of_kind.2 found.captions.0.formed.some sound.apart count has));
       })
 
-  -- a roll-up cue behind a former one
+  -- a roll-up cue after a former one
   row_behind : (n rows : ℕ) (channel : Chan) (cue former : Cue) (earlier later : List Cue) → reverse (former ∷ earlier) ++ cue ∷ later ≡ all
       → cue.kind ≡ Roll channel rows → (b : Bool) → continues cue former ≡ b
       → ((m : ℕ) → former.kind ≡ Roll channel rows → AllByRecursion IsLoaded (take (suc m) (chain_of former earlier)) → Chained (suc m) rows former earlier (cue ∷ later))
@@ -150,7 +150,7 @@ module _ (in_field : FieldNumber) (t : Timeline) (captioned : IsCaptioned t) (fi
       subst (λ (chain : List Cue). AllByRecursion IsLoaded (take (suc (suc n)) chain)) (chain_on cue former earlier test) loaded in
       row_more (suc n) rows channel cue former earlier later found kind test (before n (sym continued.kind ∙ kind) rest.1)
 
-  -- so each roll-up cue of whose chain so many were loaded since shows so many rows, or one of them begins anew
+  -- so each roll-up cue of whose chain this many were loaded since shows this many rows, or one of them begins anew
   rows_back : (n rows : ℕ) (channel : Chan) (cue : Cue) (earlier later : List Cue) → reverse earlier ++ cue ∷ later ≡ all → cue.kind ≡ Roll channel rows
       → AllByRecursion IsLoaded (take (suc n) (chain_of cue earlier)) → Chained (suc n) rows cue earlier later
   rows_back n rows channel cue [] later stands kind loaded =
@@ -160,7 +160,7 @@ module _ (in_field : FieldNumber) (t : Timeline) (captioned : IsCaptioned t) (fi
       (λ m former_kind rest. rows_back m rows channel former earlier (cue ∷ later) (one_before former earlier (cue ∷ later) ∙ stands) former_kind rest)
       loaded
 
-  -- what is shown behind a cue is what all of them show
+  -- what is shown after a cue is what all of them show
   all_newest : (cue : Cue) (earlier later : List Cue) → reverse earlier ++ cue ∷ later ≡ all → newest_first later (cue ∷ earlier) ≡ newest_first all []
   all_newest cue earlier later stands =
       sym (newest_first-append (reverse earlier) (cue ∷ later) [] ∙ ap (newest_first (cue ∷ later)) (newest_back earlier))

@@ -14,7 +14,7 @@ row_delivered since zero = tt
 row_delivered since (suc zero) = tt
 row_delivered since (suc (suc count)) = (omega arith, omega arith, row_delivered (since + 1) (suc count))
 
--- and those behind a lost one
+-- and those after a lost one
 pub rows_delivered : (k n lost count : ℕ) → k + n ≡ lost → AreDelivered (range_with_len k n ++ range_with_len (suc lost) count)
 rows_delivered k zero lost count is = row_delivered (suc lost) count
 rows_delivered k (suc zero) lost zero is = tt

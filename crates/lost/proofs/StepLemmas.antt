@@ -45,11 +45,11 @@ pub fresh_other : (before : List Pair) (q p : Pair) → same_pair q p ≡ false 
 unfolding is_ignored number_behind
 fresh_other before q p other = rw other (begins (is_control p))
 
--- nor is one behind a pair that is none of control
+-- nor is one after a pair that is none of control
 pub fresh_plain : (before : List Pair) (q p : Pair) → is_control q ≡ false → is_ignored (q ∷ before) p ≡ false
 fresh_plain before q p plain = let w = waits_some before in (waits_behind_other before w.0 q w.1 plain).repeats p
 
--- nor one behind a pair that was
+-- nor one after a pair that was
 pub fresh_repeated : (before : List Pair) (q p : Pair) → is_ignored before q ≡ true → is_ignored (q ∷ before) p ≡ false
 fresh_repeated before q p ignored =
     let w = waits_some before in (waits_behind_repeat before w.0 q w.1 (sym (w.1.repeats q) ∙ ignored)).repeats p
@@ -78,7 +78,7 @@ module _ (t : Timeline) (captioned : IsCaptioned t) (from k n : ℕ) (is : from 
   abbrev doubler : Doubler
   doubler = record { waiting = repeat_at t n }
 
-  -- behind the pair of the slot
+  -- after the pair of the slot
   onward : (o : Option Pair) → repeat_of (t n) ≡ o → Waits (slot t n ∷ before) (record { waiting = o }) → InStep t from (suc k) (suc n)
   onward o same waits =
       let here : n ≡ from + k = sym is in

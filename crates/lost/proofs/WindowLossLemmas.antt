@@ -1,4 +1,4 @@
--- A service of a list shows the authored windows again behind a loss where each caption that is up was loaded since.
+-- A service of a list shows the authored windows again after a loss where each caption that is up was loaded since.
 use Rattle.std.proofs.Common.{◌≡◌, ◌∙◌, ℕ, suc, ◌<◌, ◌≤◌, ◌==◌, ◌⊎◌, inl, inr, Bool, true, false, cond, if◌then◌else◌, List, [], ◌∷◌, Option, Some, None, refl, sym, ap, subst, arith}
 use Rattle.std.specs.Prelude.{IfSome, unwrap_or}
 use Rattle.cc_base.specs.declared.rate.Rate.{Rate}
@@ -77,7 +77,7 @@ cue_of rate service c (k ∷ ks) has = at k.kind refl has (λ rest. cue_of rate 
     at (Roll channel rows) is has rest = further (is_of_service service k.kind) (rest has) refl
     at (Win w) is has rest = win w is (w.service == service) refl has rest
 
--- each caption that is up was loaded behind the lost frame
+-- each caption that is up was loaded after the lost frame
 up_loaded : (list : Listing) (service lost frame : ℕ) → IsServiceBack list service frame lost
     → (c : Caption) → Has c (service_captions list.rate service list.cues) → frame < c.hide → suc lost ≤ c.load
 up_loaded list service lost frame back c has up =

@@ -1,4 +1,4 @@
--- A cue that isn't pop-on, where nothing is left to hide: its units act alone, and behind its SHOW the timeline goes on with what hides it.
+-- A cue that isn't pop-on, where nothing is left to hide: its units act alone, and after its SHOW the timeline continues with what hides it.
 use Rattle.std.proofs.Common.{◌≡◌, ℕ, ◌<◌, ◌≤◌, false, List, ◌∷◌, None, ap, ◌∙◌, arith}
 use Rattle.std.specs.Option.{option_or}
 use Rattle.line21_codes.specs.declared.channels.FieldNumber.{FieldNumber}
@@ -41,7 +41,7 @@ module _ (in_field : FieldNumber) (t : Timeline) (frames a : ℕ) (cue : Cue) (l
   written_continues =
       continues_behind in_field t a cue.show None cue later first before (omega arith) (λ n above. ap (λ events. event_at events n) (plain_events in_field cue later plain))
 
--- a timeline that acts as another one goes on behind a roll-up cue, of whose chain so many rows are shown
+-- a timeline that acts as another one goes on after a roll-up cue, of whose chain this many rows are shown
 pub record IsRolledUp (in_field : FieldNumber) (other : Timeline) (count rows : ℕ) (cue : Cue) (earlier later : List Cue) : Type 0 where
   pub own : Timeline
   pub same : (n : ℕ) → acts own n ≡ acts other n

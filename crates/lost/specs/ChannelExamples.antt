@@ -1,5 +1,5 @@
 -- Between crates: the program's answer stands on none of these definitions.
--- Worked examples: captions of CC1 of which one frame is lost, and the screens that stand behind the loss, each written out by hand from the
+-- Worked examples: captions of CC1 of which one frame is lost, and the screens that follow the loss, each written out by hand from the
 -- tables of line 21 (CTA-608-E; 47 CFR 79.101).
 use Rattle.std.specs.Prelude.{◌≡◌, ℕ, ◌+◌, List, [], ◌∷◌, ◌++◌, Option, None, Some, drop, reverse, take}
 use Rattle.line21_codes.specs.declared.channels.Chan.TheVariants.{Cc1}
@@ -14,11 +14,11 @@ use Rattle.cue_lists.specs.declared.cue.Kind.TheVariants.{Pop, Roll}
 use Rattle.line21_screen.specs.Meaning.{after}
 use Rattle.line21_shown.specs.Examples.{Example, pair, picture_rows, twice}
 
--- what the receiver of field 1 displays at a frame, by the pairs from behind a lost frame up to that of the frame
+-- what the receiver of field 1 displays at a frame, by the pairs from after a lost frame up to that of the frame
 abbrev pub displayed_behind : List Pair → ℕ → ℕ → Picture
 displayed_behind pairs lost frame = (after One (reverse (drop (lost + 1) (take (frame + 1) pairs)))).first.displayed
 
--- the pairs behind the lost frame display the screen at a frame
+-- the pairs after the lost frame display the screen at a frame
 abbrev pub ShowsBehind : Example → ℕ → ℕ → List (List (Option Cell)) → Type 0
 ShowsBehind example lost frame screen = picture_rows (displayed_behind example.pairs lost frame) ≡ screen
 

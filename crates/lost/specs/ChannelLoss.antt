@@ -1,5 +1,5 @@
 -- Between crates: the program's answer stands on none of these definitions.
--- Line 21 where frames are missing: what a receiver shows that is reset right behind them, and which cues bring a channel back
+-- Line 21 where frames are missing: what a receiver shows that is reset right after them, and which cues bring a channel back
 -- (CTA-608-E; 47 CFR 79.101; that a receiver is reset there is this project's own choice).
 use Rattle.std.specs.Prelude.{◌≡◌, ℕ, zero, suc, ◌+◌, ◌<◌, ◌≤◌, List, [], ◌∷◌, ◌++◌, reverse, take, option_to_list}
 use Rattle.std.specs.List.{AllByRecursion}
@@ -18,7 +18,7 @@ use Rattle.line21_screen.specs.Meaning.{after}
 use Rattle.frame_carrier.specs.Columns.{Columns, pair_in}
 use Rattle.frame_carrier.specs.Planned.{IsListPlaced, Placement, authored_channel, columns_of}
 
--- the pairs of a field in so many frames from one on
+-- the pairs of a field in this many frames from one on
 abbrev pub pairs_between : FieldNumber → Columns → ℕ → ℕ → List Pair
 pairs_between in_field columns from zero = []
 pairs_between in_field columns from (suc count) =
@@ -39,7 +39,7 @@ rows_of (kind.Win window) = 1
 abbrev pub seen_with : Cue → List Cue → List Cue
 seen_with cue earlier = take (rows_of cue.kind) (chain_of cue earlier)
 
--- a cue resynchronises its channel behind a lost frame: it stands among the cues of the channel, and each of those of which something is seen
+-- a cue resynchronises its channel after a lost frame: it stands among the cues of the channel, and each of those of which something is seen
 -- with it has its LOAD later, so all that is sent of it comes
 pub record Resynchronises (channel : Chan) (cues : List Cue) (lost : ℕ) (cue : Cue) : Type 0 where
   pub earlier : List Cue
@@ -47,7 +47,7 @@ pub record Resynchronises (channel : Chan) (cues : List Cue) (lost : ℕ) (cue :
   pub stands : cues_on channel cues ≡ earlier ++ cue ∷ later
   pub loaded : AllByRecursion (λ (seen : Cue). lost < seen.load) (seen_with cue (reverse earlier))
 
--- a receiver that was reset behind a lost frame, and then hears all frames up to one, shows at that one what is authored for its field,
+-- a receiver that was reset after a lost frame, and then hears all frames up to one, shows at that one what is authored for its field,
 -- from the SHOW of a cue on that resynchronises the channel: whatever was heard before the loss, and whatever the loss cut apart
 abbrev pub AuthoredIsSeenAgain : Type 0
 AuthoredIsSeenAgain = (list : Listing) (placed : Placement) → IsFormed list → IsRuled list → IsListPlaced list placed

@@ -32,7 +32,7 @@ AreDelivered (frame ∷ (next ∷ frames)) = (frame < next) × (next ≤ frame +
 abbrev pub NoneIsLost : List ℕ → ℕ → Type 0
 NoneIsLost came frame = came ≡ range_with_len 0 (suc frame)
 
--- the last frame that is lost before one: those that came are some before it, and then all from right behind it up to the one
+-- the last frame that is lost before one: those that came are some before it, and then all from right after it up to the one
 pub record IsLastLost (came : List ℕ) (lost frame : ℕ) : Type 0 where
   pub before : List ℕ
   pub earlier : AllByRecursion (λ (k : ℕ). k < lost) before
@@ -57,6 +57,6 @@ pub record HoldsOfLastLost (came : List ℕ) (frame : ℕ) (Holds : ℕ → Type
   pub last : IsLastLost came lost frame
   pub holds : Holds lost
 
--- what was reset behind a lost frame is in step with the list at the last frame that came: none was lost, or it is back behind the last that was
+-- what was reset after a lost frame is in step with the list at the last frame that came: none was lost, or it is back after the last that was
 abbrev pub IsInStep : List ℕ → ℕ → (ℕ → Type 0) → Type 0
 IsInStep came frame IsBack = NoneIsLost came frame ⊎ HoldsOfLastLost came frame IsBack

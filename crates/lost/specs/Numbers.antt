@@ -17,7 +17,7 @@ abbrev pub FramesAreNumbered : Type 0
 FramesAreNumbered = (list : Listing) (placed : Placement) (first : ℕ) (others : List ℕ) → AreDelivered (first ∷ others) → first < 65536
     → number_of_last (delivered_packets list placed (first ∷ others)) ≡ last_of first others
 
--- and so many frames as lie between it and the one that came before it are told to be missing
+-- and as many frames as lie between it and the one that came before it are told to be missing
 abbrev pub MissingAreCounted : Type 0
 MissingAreCounted = (list : Listing) (placed : Placement) (earlier : List ℕ) (former frame : ℕ) → AreDelivered (earlier ++ former ∷ frame ∷ [])
     → suc former + missing_before (delivered_packets list placed (earlier ++ former ∷ frame ∷ [])) ≡ frame

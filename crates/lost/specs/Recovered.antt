@@ -1,5 +1,5 @@
 -- Between crates: the program's answer stands on none of these definitions.
--- What a concealing receiver shows of a placed list of which frames are lost: it is reset behind each loss, and what is authored is seen
+-- What a concealing receiver shows of a placed list of which frames are lost: it is reset after each loss, and what is authored is seen
 -- again on each channel and in each service that is back (CTA-608-E; 47 CFR 79.101; CTA-708-E,
 -- caption windows; SMPTE ST 334-2).
 use Rattle.std.specs.Prelude.{◌≡◌, ℕ, ◌<◌, ◌≤◌, ◌⊎◌, List, [], ◌∷◌, ◌++◌, Option, None}
@@ -27,7 +27,7 @@ use Rattle.cc_conceal.specs.Concealers.{Conceals, HasConcealed}
 use Rattle.cc_conceal.specs.declared.concealer.Concealer.{Concealer}
 use Rattle.lost.specs.Delivered.{AreDelivered, IsInStep, delivered_bytes, delivered_packets}
 
--- a channel is back at a frame behind a lost one: it has no cue, or one resynchronises it that has its SHOW by then
+-- a channel is back at a frame after a lost one: it has no cue, or one resynchronises it that has its SHOW by then
 abbrev pub IsChannelBack : Chan → List Cue → ℕ → ℕ → Type 0
 IsChannelBack channel cues frame lost =
     (cues_on channel cues ≡ []) ⊎ ((cue : Cue) × Resynchronises channel cues lost cue × (cue.show ≤ frame))
@@ -39,7 +39,7 @@ IsChannelInStep list channel came frame = IsInStep came frame (IsChannelBack cha
 abbrev pub IsServiceInStep : Listing → ℕ → List ℕ → ℕ → Type 0
 IsServiceInStep list service came frame = IsInStep came frame (IsServiceBack list service frame)
 
--- a field behind frames that came shows at the last of them what is authored on its first channel, where that is in step there and the frame is
+-- a field after frames that came shows at the last of them what is authored on its first channel, where that is in step there and the frame is
 -- settled for it, and nothing on its second
 pub record ShowsFieldAgain (state : FieldState) (list : Listing) (channel : Chan) (came : List ℕ) (frame : ℕ) : Type 0 where
   pub first : IsChannelInStep list channel came frame → IsSettled channel list.cues frame → state.first.displayed ≡ authored_grid channel list.cues frame
@@ -63,7 +63,7 @@ DeliveredAreConcealed = (list : Listing) (placed : Placement) → IsFormed list 
     × ((receiver : Concealer) → HasConcealed (delivered_bytes list placed came) receiver → Conceals (delivered_packets list placed came) receiver)
 
 -- the cell is one that the receiver's call `cell` may answer, and this is what may be seen of the window that its call `window` answers: what
--- stands there behind whatever frames the receiver conceals
+-- stands there after whatever frames the receiver conceals
 abbrev pub IsCellOf : Concealer → Chan → ℕ → ℕ → Option Cell → Type 0
 IsCellOf receiver channel row column cell = (frames : List Frame) → Conceals frames receiver → cell ≡ concealed_grids frames channel row column
 

@@ -19,8 +19,8 @@ pub fn delivered_are_concealed()
 /// Of a placed list that is in form and keeps the rules, at any rate, let any frames be lost, but fewer than 65,536 in a row: at each
 /// frame that comes a concealing receiver shows the authored grids of CC1 and CC3, where the channel is in step and the frame is settled for
 /// it, blank grids on CC2 and CC4, and in each service that is in step the authored windows. A channel is in step where no frame was lost
-/// before, where it has no cue, or where a cue resynchronises it behind the last lost frame and has its SHOW by then; a service where none was
-/// lost before, or each of its cues that isn't hidden by then has its LOAD behind the last lost frame. Nothing is promised in between.
+/// before, where it has no cue, or where a cue resynchronises it after the last lost frame and has its SHOW by then; a service where none was
+/// lost before, or each of its cues that isn't hidden by then has its LOAD after the last lost frame. Nothing is promised in between.
 pub fn loss_is_recovered()
     ensures { LossIsRecovered }
 {}

@@ -4,14 +4,14 @@ ghost use Rattle.std.specs.Prelude.{◌≡◌, false, true, [], ◌∷◌, map};
 ghost use Rattle.lost.specs.WindowExamples.{interrupted_list, is_seen_since};
 ghost use Rattle.lost.specs.WindowLoss.{IsServiceBack, ServiceLossIsRecovered};
 
-/// In a list that is in form and keeps the rules, a service that is reset behind a lost frame shows just the authored windows at every
-/// frame at which each cue of the service that isn't hidden yet has its LOAD behind the lost frame, so always where it has no cue: wherever the
+/// In a list that is in form and keeps the rules, a service that is reset after a lost frame shows just the authored windows at every
+/// frame at which each cue of the service that isn't hidden yet has its LOAD after the lost frame, so always where it has no cue: wherever the
 /// units stand that the lane allows, with any number of delays and loads under way at the loss, and whatever the service's clock had counted.
 pub fn service_loss_is_recovered()
     ensures { ServiceLossIsRecovered }
 {}
 
-/// What is seen behind the loss of frame 5, worked out by hand: nothing of a window that was shown by then, nor of one whose DefineWindow
+/// What is seen after the loss of frame 5, worked out by hand: nothing of a window that was shown by then, nor of one whose DefineWindow
 /// came before, though more of its load and what shows it come later; a window that is loaded later, while the delay of the lost one is
 /// on; and one that is loaded and shown when all others are hidden. From frame 20 on no window is left that was loaded before the loss.
 pub fn windows_behind_a_loss_are_seen()

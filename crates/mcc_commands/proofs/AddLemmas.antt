@@ -26,7 +26,7 @@ use Rattle.mcc_commands.specs.declared.made.Made.{Made}
 use Rattle.mcc_commands.proofs.ImportMadeLemmas.{captions_counted, frames_long, other_counted}
 use Rattle.mcc_commands.proofs.ReadLemmas.{within_of}
 
--- a piece was added behind words that are gathered
+-- a piece was added after words that are gathered
 pub piece_gathered : (start now then : Option (List ℕ)) (held after piece words : List ℕ) → IsGathered start now held words → Gathers now then held after put.Done piece
     → IsGathered start then after (words ++ piece)
 piece_gathered start now then held after piece words way next = gathered_more start now then put.Done held after piece words way next
@@ -232,7 +232,7 @@ missing_unwritten placed words old mid new frame user missing bytes size start t
   subst (λ (w : List ℕ). Puts start then put.Failed w) (append_assoc words (words_left missing) bytes) (puts_stop start then (words ++ words_left missing) bytes failed),
 )
 
--- a limit is passed, where so many are missing
+-- a limit is passed, where this many are missing
 pub captions_pass_with : (placed : TimedPackets) (words : List ℕ) (old mid new : Made) (frame : ℕ) (user : List ℕ) (missing : MissingFrames) (bytes : List ℕ) (which : LimitOf) (size many : ℕ)
     → IsMade placed words old → Begun placed words old mid.words frame user missing bytes → mid.frames ≡ old.frames → mid.bytes ≡ old.bytes
     → size ≡ missing.left * frame_size missing.rate + length bytes → many ≡ missing.left → Counts mid (many + 1) size new (Err which) → PassesBy which placed (frame, captions user)

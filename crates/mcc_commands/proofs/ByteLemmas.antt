@@ -21,7 +21,7 @@ use Rattle.mcc_commands.proofs.ImportOffenceLemmas.{fitting_front}
 use Rattle.mcc_commands.proofs.ImportWordsLemmas.{head_of, last_word, open_not_yet, whole_words, words_split}
 use Rattle.mcc_commands.specs.Words.{eight_words, flag_words, open_words}
 
--- bytes behind bytes
+-- bytes after bytes
 pub both_bytes : (xs ys : List ℕ) → AreBytes xs → AreBytes ys → AreBytes (xs ++ ys)
 both_bytes xs ys are also = All-append (λ b. b < 256) xs ys are also
 

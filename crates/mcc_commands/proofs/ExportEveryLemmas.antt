@@ -65,7 +65,7 @@ all_or_not (word ∷ words) = elim (eight_or_not word) [
   ]
 ]
 
--- behind frames a rate is expected, or another one is
+-- after frames a rate is expected, or another one is
 like_first : (count : Counting) (frames : List Frame) (seen : Rate) → counts_rate count seen ≡ true → HasRate count frames seen ⊎ ((expected : Rate) × IsWrongRate count frames expected seen)
 like_first count [] seen counted = inl counted
 like_first count (first ∷ frames) seen counted = elim (cases_eq (rate_code seen) (rate_code first.rate)) [

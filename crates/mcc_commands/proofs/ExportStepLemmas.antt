@@ -45,7 +45,7 @@ use Rattle.mcc_commands.specs.declared.exporting.Exporting.{Exporting}
 abbrev pub Halts : Start → MccStop → List ℕ → List ℕ → Type 0
 Halts start why = HaltsMcc start (stop_status why)
 
--- what is judged of a file, and of the bytes of the packet that is open behind it
+-- what is judged of a file, and of the bytes of the packet that is open after it
 pub judged_so : (start : Start) (frames : List Frame) (file text bytes : List ℕ) (exporting : Exporting) → bytes ≡ file ++ open_bytes exporting.packets
     → (read : HasRead frames file exporting.packets) → StandsBehind start frames exporting.clock → IsMccOf start frames file read.under text
     → HasJudged start bytes text exporting

@@ -190,7 +190,7 @@ stops_once start frames packet (status.Differs a) _ one other = absurd other
 stops_once start frames packet (status.Limit limit.Day) _ one other = absurd other
 stops_once start frames packet _ other_status one other = absurd one
 
--- a list that ends with an item goes on behind a front, or is that
+-- a list that ends with an item goes on after a front, or is that
 last_or_more : (front rest packets : List AncillaryPacket) (last : AncillaryPacket) → front ++ rest ≡ packets ++ last ∷ []
     → (rest ≡ []) ⊎ ((more : List AncillaryPacket) × (packets ≡ front ++ more))
 last_or_more [] rest packets last is = inr (packets, refl)

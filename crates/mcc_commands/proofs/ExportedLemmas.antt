@@ -78,7 +78,7 @@ mcc_nothing start is_file below =
     })
     (head_written start.count)
 
--- a packet behind a file
+-- a packet after a file
 whole_file : (frames : List Frame) (file bytes : List ℕ) (is_file : IsFileUnder caption_channel frames file) (packet : AncillaryPacket) → IsPacketBytes packet bytes
     → IsWordsFile (is_file.file.packets ++ packet ∷ []) (file ++ bytes)
 whole_file frames file bytes is_file packet is =

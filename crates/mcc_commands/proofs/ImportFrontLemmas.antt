@@ -17,7 +17,7 @@ use Rattle.mcc_commands.proofs.ImportOffenceLemmas.{AtItems, behind_on, no_word_
 use Rattle.mcc_commands.proofs.StateLemmas.{none_with, stepped}
 use Rattle.mcc_commands.proofs.ImportWordsLemmas.{WordsOn, on_both, on_none, open_on}
 
--- the words of an item stand behind those before it
+-- the words of an item follow those before it
 item_on : (before : List ℕ) (s : State) (byte : ℕ) (item : List ℕ) → item_in s.phase s.payload byte ≡ item → run at_first before ≡ Ok s → WordsOn (state_words s) (words_with s item)
 item_on before s byte [] is reads = on_none (state_words s) (words_with s []) (none_with s [] refl)
 item_on before s byte (first ∷ item) is reads =
@@ -33,7 +33,7 @@ item_on before s byte (first ∷ item) is reads =
       spelled = words_at s s.placed bytes (first ∷ item) at ∙ (on.spelled ∙ ap (λ (w : List ℕ). w ++ on.rest) (sym (state_at s s.placed bytes at)));
     }
 
--- the words of what was read stand behind those of what was read before
+-- the words of what was read follow those of what was read before
 pub words_on : (rest before : List ℕ) (s t : State) → run at_first before ≡ Ok s → run s rest ≡ Ok t → WordsOn (state_words s) (state_words t)
 words_on [] before s t reads goes = on_none (state_words s) (state_words t) (ap (λ (x : State). state_words x) (sym (ok_same s t goes)))
 words_on (byte ∷ rest) before s t reads goes =

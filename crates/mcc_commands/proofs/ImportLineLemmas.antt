@@ -72,7 +72,7 @@ grows came (b ∷ bytes) fit more join not_yet some begun on =
     let is = on (omega arith) in
     omega (arith, both, size, each, same, is, length-append came (open_words (b ∷ bytes)), length-append came (open_words ((b ∷ bytes) ++ fit)))
 
--- so many bytes of words more does an item bring
+-- this many bytes of words more does an item bring
 pub words_grow : (before : List ℕ) (s : State) (byte heard more : ℕ) → run at_first before ≡ Ok s → heard ≡ length (state_words s) → (length (item_in s.phase s.payload byte) ≡ 0 → more ≡ 0)
     → (0 < length (item_in s.phase s.payload byte) → length s.payload.bytes ≡ 0 → more ≡ 6 + 2 * length (item_in s.phase s.payload byte))
     → (0 < length s.payload.bytes → more ≡ 2 * length (item_in s.phase s.payload byte)) → heard + more ≡ length (words_with s (item_in s.phase s.payload byte))
@@ -350,7 +350,7 @@ line_within reader line place heard word had i below =
     let within = had.within in
     omega (arith, place_is, within, below, length-append had.before line)
 
--- the bytes of a line behind some of them
+-- the bytes of a line after some of them
 line_split : (before line : List ℕ) (i : ℕ) → i < length line → before ++ line ≡ (before ++ take i line) ++ slice_index line i ∷ drop (i + 1) line
 line_split before line i below =
     ap (λ (l : List ℕ). before ++ l) (sym (take-append-drop (i + 1) line))

@@ -37,7 +37,7 @@ use Rattle.mcc_commands.specs.Words.{is_open, open_part, open_words, state_words
 use Rattle.mcc_commands.proofs.StateLemmas.{letter_item, no_letter_item, no_second_item, second_item}
 use Rattle.mcc_commands.proofs.ImportWordsLemmas.{WordsOn, front_is_open, goes_on, open_on}
 
--- no word offends in words behind which none does
+-- no word offends in words after which none does
 some_none : (found : Option Refusal) (refusal : Refusal) → found ≡ Some refusal → found ≡ None → ⊥
 some_none found refusal some none = cc
 
@@ -94,7 +94,7 @@ payload_fits before first over more p spelled =
     let behind = joined_split true twice.middle first more (payload_bytes p) twice.second in
     fitting_on before first over behind.middle (subst (λ (b : List ℕ). joined true b first ≡ Ok behind.middle) same behind.first)
 
--- a state behind items of an open payload
+-- a state after items of an open payload
 pub record AtItems (s : State) (placed : TimedPackets) (bytes : List ℕ) : Type 0 where
   pub open_is : is_open s.phase ≡ true
   pub bytes_are : s.payload.bytes ≡ bytes
@@ -114,7 +114,7 @@ state_at s placed bytes at =
 at_state : (s one : State) (placed : TimedPackets) (bytes : List ℕ) → AtItems one placed bytes → one ≡ s → AtItems s placed bytes
 at_state s one placed bytes at same = subst (λ (x : State). AtItems x placed bytes) same at
 
--- behind items, and behind the first digit of one more
+-- after items, and after the first digit of one more
 pub behind_items : (items : List (List ℕ)) (before : List ℕ) (s : State) (a : AwaitsItem items before) → run at_first before ≡ Ok s
     → in_payload (awaiting_item items before a).to (at_bytes (concat items)) ≡ s
 behind_items items before s a reads =

@@ -91,7 +91,7 @@ front_unoffending front rest which words judged behind refusal p spelled within 
     by_offence (inl word) = p.no_word refusal word
     by_offence (inr (byte, none)) = no_offence front refusal (p.placed ++ p.last ∷ []) (inl byte) p.file
 
--- where something offends behind such a line, a run stopped at the line
+-- where something offends after such a line, a run stopped at the line
 behind_line : (front more words : List ℕ) (which : LimitOf) → EndsLine front ⊎ (more ≡ []) → PassesAtPacket which front words → (judged rest text before : List ℕ) (last : ℕ)
     → judged ≡ before ++ last ∷ [] → SaysLines before text → judged ++ rest ≡ front ++ more → length front < length judged → ⊥
 behind_line front more words which (inr none) p judged rest text before last spelled says all below =

@@ -17,7 +17,7 @@ use Rattle.words_files.proofs.WordLemmas.{front_of}
 use Rattle.mcc_commands.specs.Offences.{front_words}
 use Rattle.mcc_commands.specs.Words.{eight_words, flag_words, open_words}
 
--- the words of bytes, and of others behind them
+-- the words of bytes, and of others after them
 pub eight_both : (xs ys : List ℕ) → eight_words (xs ++ ys) ≡ eight_words xs ++ eight_words ys
 eight_both [] ys = refl
 eight_both (x ∷ xs) ys = ap (λ r. word_bytes (eight_bit_word x) ++ r) (eight_both xs ys)
@@ -113,7 +113,7 @@ front_is_open p (byte ∷ bytes) more spelled = elim (cases_Bool (is_whole (byte
       ∙ (ap (λ l. take (length front) l) split ∙ (take-append_seam front (eight_words rest ++ last_word p) ∙ sym (open_not_yet byte bytes not_yet)))
 ]
 
--- a payload that goes on with bytes
+-- a payload that continues with bytes
 pub record GoesOn (bytes : List ℕ) : Type 0 where
   pub payload : Payload
   pub more : List ℕ
@@ -124,7 +124,7 @@ goes_on bytes join =
     let c = completes true bytes join in
     record { payload = c.payload; more = c.more; spelled = ap (λ (n : ℕ). bytes_with c.payload n) (sym (c.right refl)) ∙ sym c.spelled }
 
--- a longer front has more words behind
+-- a longer front has more words after
 pub record WordsOn (fewer more : List ℕ) : Type 0 where
   pub rest : List ℕ
   pub spelled : more ≡ fewer ++ rest

@@ -216,7 +216,7 @@ up_to_it bytes refusal a =
     let facts = item_facts a.before a.s a.byte a.reads some in
     (record { place = length a.before - back_in a.s.phase a.s.payload; why = a.word.why }, word_offends a.before a.s a.byte a.word a.reads facts.not_yet some a.fine a.offends)
 
--- behind a byte with which no file goes on no word offends
+-- after a byte with which no file goes on no word offends
 behind_byte : (front more : List ℕ) (refusal other : Refusal) (b : MccByteOffends front refusal) (a : OffendsAt (front ++ more) other) → length b.before < length a.before → ⊥
 behind_byte front more refusal other b a below =
     let long = length-append b.before (b.byte ∷ []) in

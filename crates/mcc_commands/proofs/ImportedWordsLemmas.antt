@@ -1,4 +1,4 @@
--- The words of packets are one list of bytes, and those of more packets go on behind them.
+-- The words of packets are one list of bytes, and those of more packets go on after them.
 use Rattle.std.proofs.Common.{◌≡◌, ℕ, ◌+◌, ◌*◌, ◌%◌, ◌<◌, ◌≤◌, inl, inr, Bool, true, false, cond, List, [], ◌∷◌, ◌++◌, append_assoc, length, length-append, sum, Option, Some, None, refl, ap, sym, ◌∙◌, subst, arith}
 use Rattle.std.proofs.lemmas.Bool.{true≢false}
 use Rattle.std.proofs.lemmas.List.{drop_at, take_at}
@@ -115,7 +115,7 @@ words_once (placed ∷ more) before after later one other (front, rest, middle, 
 pub one_words : WordsAreOne
 one_words placed one other is also = (words_once placed None is.after also.after one other is.are also.are).0
 
--- the words of packets and of more behind them
+-- the words of packets and of more after them
 record Split (front more : TimedPackets) (before after : Option Before) (words : List ℕ) : Type 0 where
   first : List ℕ
   rest : List ℕ

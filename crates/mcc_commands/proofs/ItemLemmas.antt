@@ -56,7 +56,7 @@ whole_long bytes p are = omega (arith, ap length are, length-append p.user (chec
 pub whole_few : (bytes : List ℕ) (p : Payload) → bytes ≡ payload_bytes p → length bytes ≤ 259 → length p.user ≤ 255
 whole_few bytes p are few = omega (arith, ap length are, length-append p.user (checksum_byte p ∷ []), few)
 
--- the last words behind those of a front
+-- the last words after those of a front
 front_drops : (p : Payload) (front more : List ℕ) → head_of p ≡ front ++ more → drop (6 + 2 * length front) (payload_words p) ≡ eight_words more ++ last_word p
 front_drops p front more spelled =
     let each = eight_long front in
@@ -77,7 +77,7 @@ last_words (b ∷ before) bytes p behind from are spelled not_yet none some =
     ∙ (ap (λ (n : ℕ). front ++ drop n (payload_words p)) size
     ∙ (ap (λ w. front ++ w) (front_drops p (b ∷ before) rest head) ∙ (sym (words_front p (b ∷ before) rest head) ∙ (sym (whole_words p) ∙ ap open_words (sym are)))))
 
--- the words of bytes that aren't whole behind those of a front
+-- the words of bytes that aren't whole after those of a front
 pub more_words : (before more : List ℕ) → is_whole before ≡ false → is_whole (before ++ more) ≡ false → 0 < length before
     → open_words before ++ eight_words more ≡ open_words (before ++ more)
 more_words [] more not_yet still some = absurd (omega (arith, some))
@@ -94,7 +94,7 @@ pub packet_said : (p : Payload) (did sdid : ℕ) (user out : List ℕ) → did �
 packet_said p did sdid user out did_is sdid_is user_is out_is =
     out_is ∙ (ap (λ (d : ℕ). packet_bytes d sdid user) did_is ∙ (ap (λ (s : ℕ). packet_bytes p.did s user) sdid_is ∙ ap (λ (u : List ℕ). packet_bytes p.did p.sdid u) user_is))
 
--- behind so many bytes of a packet stand its last words
+-- after this many bytes of a packet stand its last words
 pub last_fits : (bytes : List ℕ) (p : Payload) (from size : ℕ) → bytes ≡ payload_bytes p → from ≤ length bytes → is_whole (take from bytes) ≡ false
     → (from ≡ 0 → size ≡ 0) → (0 < from → size ≡ 6 + 2 * from) → size ≤ length (payload_words p)
 last_fits bytes p from size are within not_yet none some =
@@ -117,7 +117,7 @@ last_put bytes p from size are within not_yet none some =
     (λ empty. none (omega (arith, front, ap length empty)))
     (λ any. some (omega (arith, front, any)) ∙ ap (λ n. 6 + 2 * n) (sym front))
 
--- what is put behind a front that isn't whole
+-- what is put after a front that isn't whole
 pub rest_put : (bytes : List ℕ) (from : ℕ) → from ≤ length bytes → 0 < from → is_whole (take from bytes) ≡ false → is_whole bytes ≡ false
     → open_words (take from bytes) ++ eight_words (drop from bytes) ≡ open_words bytes
 rest_put bytes from within some not_yet still =

@@ -110,7 +110,7 @@ one_limit front more back rest words other which another spelled p q = elim (cas
       limit_within front behind.0 back words other which another behind.1 p q
 ]
 
--- what ended in bytes goes on behind a line that ended in them
+-- what ended in bytes goes on after a line that ended in them
 no_lf_last : (front : List ℕ) (rest : List ℕ) → HaveNoLf (front ++ 10 ∷ rest) → ⊥
 no_lf_last [] rest none = cc
 no_lf_last (byte ∷ front) rest none = no_lf_last front rest (and_parts (not (byte == 10)) (list_all (λ (b : ℕ). not (b == 10)) (front ++ 10 ∷ rest)) none).1

@@ -1,4 +1,4 @@
--- Packets one behind another, each at its frame, and the lines that are written of them.
+-- Packets one after another, each at its frame, and the lines that are written of them.
 use Rattle.std.proofs.Common.{◌≡◌, ℕ, ◌+◌, ◌-◌, ◌++◌, List, [], ◌∷◌, length, refl, ap, subst, sym, ◌∙◌, append_assoc, append-nil, arith}
 use Rattle.anc_words.specs.Packets.{AncillaryPacket, IsCaption}
 use Rattle.cdp_packets.specs.Packets.{Frame}

@@ -50,7 +50,7 @@ pub no_offence : (bytes words : List ℕ) (importing : Importing) → HasImporte
 no_offence bytes words importing had =
     record { form = unoffending bytes (state_of importing.reader had.placed) (origin bytes (state_of importing.reader had.placed) had.read); no_word = had.no_word }
 
--- bytes were taken, and their words were put; so many more are within the limit
+-- bytes were taken, and their words were put; this many more are within the limit
 pub record IsUnderway (first left start now : Option (List ℕ)) (importing : Importing) (room : ℕ) : Type 0 where
   pub taken : List ℕ
   pub words : List ℕ

@@ -98,7 +98,7 @@ file_more placed one hearer was are heard =
       captions = λ captions. let (frame, cdp, only) = brought.caption_brings captions in (frame, subst (λ (u : List ℕ). IsCdp frame u) (user_bytes-packet_of p.did p.sdid p.user (user_of_bytes p are)) cdp);
     }
 
--- the words behind a packet's line
+-- the words after a packet's line
 pub started_words : (placed : TimedPackets) (reader : MccReader) → is_open (state_of reader placed).phase ≡ false → state_words (state_of reader placed) ≡ words_as_they_came placed
 started_words placed reader closed =
     ap (λ (b : Bool). words_as_they_came placed ++ open_part b (state_of reader placed).payload.bytes) closed ∙ append-nil (words_as_they_came placed)

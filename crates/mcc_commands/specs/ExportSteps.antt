@@ -51,13 +51,13 @@ abbrev pub first_rate : List Frame → Option Rate
 first_rate [] = None
 first_rate (first ∷ frames) = Some first.rate
 
--- a clock stands behind frames
+-- a clock stands after frames
 pub record StandsBehind (start : Start) (frames : List Frame) (clock : Clock) : Type 0 where
   pub count_is : clock.count ≡ start.count
   pub last_is : clock.last ≡ start.first + (length frames - 1)
   pub rate_is : clock.rate ≡ first_rate frames
 
--- the frame behind the last one, where there is one
+-- the frame after the last one, where there is one
 abbrev pub IsNext : Option Rate → ℕ → ℕ → Type 0
 IsNext None last next = next ≡ last
 IsNext (Some before) last next = next ≡ last + 1
@@ -74,12 +74,12 @@ TellsRate count before seen (Some expected) =
     ((counts_rate count seen ≡ false) × (expected ≡ expected_rate count))
     ⊎ ((counts_rate count seen ≡ true) × (before ≡ Some expected) × (seen ≢ expected))
 
--- a frame behind others has a rate that is expected
+-- a frame after others has a rate that is expected
 abbrev pub HasRate : Counting → List Frame → Rate → Type 0
 HasRate count [] seen = counts_rate count seen ≡ true
 HasRate count (first ∷ frames) seen = (counts_rate count seen ≡ true) × (seen ≡ first.rate)
 
--- a packet of captions of this rate stops an export behind these frames
+-- a packet of captions of this rate stops an export after these frames
 abbrev pub IsStoppedBy : Start → List Frame → Rate → MccStop → Type 0
 IsStoppedBy start frames seen (reason.Found finding) =
     (expected : Rate) × IsWrongRate start.count frames expected seen × (finding ≡ record { frame = length frames; kind = kind.WrongRate expected seen })
@@ -140,7 +140,7 @@ AddsLine now then held after line used old new (Err _) = ⊥
 abbrev pub HasReadWords : List ℕ → Exporting → Type 0
 HasReadWords bytes exporting = HasReadPackets bytes exporting.packets
 
--- these bytes were judged, none of whose words offends, and this is the MCC file of their packets, behind which the clock stands
+-- these bytes were judged, none of whose words offends, and this is the MCC file of their packets, after which the clock stands
 pub record HasJudged (start : Start) (bytes text : List ℕ) (exporting : Exporting) : Type 0 where
   pub says : SaysMcc start bytes text
   pub unoffending : IsUnoffending caption_channel bytes

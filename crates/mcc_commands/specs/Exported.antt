@@ -58,12 +58,12 @@ pub record AreExportedAsMcc (start : Start) (packets : List AncillaryPacket) (fr
   pub of_bytes : All IsOfBytes packets
   pub within_day : start.first + length frames ≤ day_frames_in start.count
 
--- a frame behind others hasn't the rate of the first of them, which is expected
+-- a frame after others hasn't the rate of the first of them, which is expected
 abbrev pub IsUnlikeFirst : List Frame → Rate → Rate → Type 0
 IsUnlikeFirst [] expected seen = ⊥
 IsUnlikeFirst (first ∷ frames) expected seen = (expected ≡ first.rate) × (seen ≢ first.rate)
 
--- behind these frames this rate is expected in place of the one that is seen: the count's, where it can't count the latter, and else that of
+-- after these frames this rate is expected in place of the one that is seen: the count's, where it can't count the latter, and else that of
 -- the first frame
 abbrev pub IsWrongRate : Counting → List Frame → Rate → Rate → Type 0
 IsWrongRate count frames expected seen =
@@ -74,7 +74,7 @@ pub record Brings (packet : AncillaryPacket) (frame : Frame) : Type 0 where
   pub is_caption : IsCaption packet
   pub carries : IsCdp frame (user_bytes packet)
 
--- this is found at a packet behind these frames
+-- this is found at a packet after these frames
 abbrev pub IsFoundAtPacket : Counting → List Frame → AncillaryPacket → Kind45 → Type 0
 IsFoundAtPacket count frames packet (kind.WrongRate expected seen) =
     (frame : Frame) × Brings packet frame × (seen ≡ frame.rate) × IsWrongRate count frames expected seen
@@ -88,7 +88,7 @@ pub record IsPastDay (start : Start) (frames : List Frame) (packet : AncillaryPa
   pub rates : HaveOneRate start.count (frames ++ frame ∷ [])
   pub past : day_frames_in start.count ≤ start.first + length frames
 
--- an export stops with this status at a packet behind these frames: something is found at it, or the day has no frame for it
+-- an export stops with this status at a packet after these frames: something is found at it, or the day has no frame for it
 abbrev pub StopsAtPacket : Start → List Frame → AncillaryPacket → Status → Type 0
 StopsAtPacket start frames packet (status.Differs finding) = (finding.frame ≡ length frames) × IsFoundAtPacket start.count frames packet finding.kind
 StopsAtPacket start frames packet (status.Limit limit.Day) = IsPastDay start frames packet

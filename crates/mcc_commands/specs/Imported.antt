@@ -15,7 +15,7 @@ use Rattle.words_files.specs.Offences.{IsFileUnder}
 use Rattle.words_reading.specs.Causes.{words_limit}
 use Rattle.mcc_commands.specs.Offences.{NoWordOffends}
 
--- how many frames are put for packets, behind a packet of captions at such a frame: one for each packet of captions, and those that are
+-- how many frames are put for packets, after a packet of captions at such a frame: one for each packet of captions, and those that are
 -- missing before it
 abbrev pub frames_behind : Option ℕ → TimedPackets → ℕ
 frames_behind last [] = 0
@@ -58,7 +58,7 @@ pub record IsMccImport (bytes text : List ℕ) : Type 0 where
   pub words : IsFileUnder caption_channel frames (words_as_they_came placed)
   pub within : AreWithinImport placed text
 
--- the words of these packets, of which there are so many frames, pass a limit
+-- the words of these packets, of which there are this many frames, pass a limit
 abbrev pub PassesWith : LimitOf → ℕ → List ℕ → Type 0
 PassesWith limit.Bytes frames text = words_limit < length text
 PassesWith limit.Frames frames text = (most_imported_frames < frames) × (length text ≤ words_limit)

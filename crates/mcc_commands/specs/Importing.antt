@@ -55,7 +55,7 @@ pub record IsMade (placed : TimedPackets) (words : List ℕ) (made : Made) : Typ
   pub frames_are : made.frames ≡ frames_put placed
   pub bytes_are : made.bytes ≡ length words
 
--- so many frames and bytes more were counted, or a limit is passed with them
+-- this many frames and bytes more were counted, or a limit is passed with them
 abbrev pub Counts : Made → ℕ → ℕ → Made → Result (Unit {0}) LimitOf → Type 0
 Counts old frames bytes new (Ok done) = (new.frames ≡ old.frames + frames) × (new.bytes ≡ old.bytes + bytes) × (new.words ≡ old.words)
 Counts old frames bytes new (Err limit.Bytes) = words_limit < old.bytes + bytes
@@ -77,7 +77,7 @@ AddsPacket placed words last start then after made (Err stopped.WriteFault) =
 AddsPacket placed words last start then after made (Err (stopped.Own (stop.Passes which))) = PassesBy which placed last × IsGathered start then after words
 AddsPacket placed words last start then after made (Err _) = ⊥
 
--- a packet of captions with these user bytes was begun at a frame behind packets of which these words were made, and before it these frames
+-- a packet of captions with these user bytes was begun at a frame after packets of which these words were made, and before it these frames
 -- are missing
 pub record HasBegun (placed : TimedPackets) (words : List ℕ) (frame : ℕ) (user : List ℕ) (missing : MissingFrames) (made : Made) : Type 0 where
   pub before : MccWords
@@ -144,7 +144,7 @@ pub record MayTakeAll (now : Option (List ℕ)) (held : List ℕ) (importing : I
   pub start : Option (List ℕ)
   pub way : IsGathered start now held may.words
 
--- the bytes of the item that ends with a byte, as far as a payload goes on with them, and how many bytes before it the item begins
+-- the bytes of the item that ends with a byte, as far as a payload can continue with them, and how many bytes before it the item begins
 abbrev pub step_item : MccReader → ℕ → List ℕ
 step_item reader byte = item_in (state_of reader []).phase (state_of reader []).payload byte
 
@@ -202,7 +202,7 @@ EndsFile start then after bytes (Err (stopped.Refused refusal)) = (words : List 
 EndsFile start then after bytes (Err (stopped.Own (stop.Passes which))) = (words : List ℕ) × PassesAtPacket which bytes words × IsGathered start then after words
 EndsFile start then after bytes (Err _) = ⊥
 
--- a run judged bytes, within the limit, and took more behind them; words that are said of them were gathered, and it ended for this cause
+-- a run judged bytes, within the limit, and took more after them; words that are said of them were gathered, and it ended for this cause
 pub record Holds (Says : List ℕ → List ℕ → Type 0) (Why : Cause) (old new : Ends) (held : List ℕ) : Type 0 where
   pub judged : List ℕ
   pub unjudged : List ℕ
@@ -234,7 +234,7 @@ PutsRest now before then after held (Err stopped.ReadFault) result = (result ≡
 PutsRest now before then after held (Err stopped.WriteFault) result = (result ≡ Err stopped.WriteFault) × (then ≡ now) × (after ≡ before)
 PutsRest now before then after held read result = PutsHeld now before then after held read result
 
--- a packet's line has ended behind those of these packets, and the words with it were heard
+-- a packet's line has ended after those of these packets, and the words with it were heard
 pub record HasEnded (placed : TimedPackets) (reader : MccReader) (hearer : Hearer) : Type 0 where
   pub file : AreFile placed
   pub heard : HasHeard (words_as_they_came (placed ++ packet_in reader ∷ [])) hearer
@@ -251,7 +251,7 @@ pub record KeepsAllElse (old new : Importing) : Type 0 where
   pub hearer : new.hearer ≡ old.hearer
   pub place : new.place ≡ old.place
 
--- a reader took a line behind bytes, and it is a packet's
+-- a reader took a line after bytes, and it is a packet's
 pub record ReadsLine (before : List ℕ) (placed : TimedPackets) (line : List ℕ) (reader : MccReader) : Type 0 where
   pub front : List ℕ
   pub spelled : line ≡ front ++ 10 ∷ []
@@ -273,7 +273,7 @@ pub record MayTakeLine (importing : Importing) (line : List ℕ) : Type 0 where
   pub start : importing.reader.phase ≡ phase.Start
   pub reads : ReadsLine may.bytes may.had.placed line importing.ahead
 
--- a word of what a reader reads of a line offends, which begins at a place, behind so many bytes of words
+-- a word of what a reader reads of a line offends, which begins at a place, after this many bytes of words
 pub record LineOffends (reader : MccReader) (line : List ℕ) (place heard : ℕ) (word : Refusal) : Type 0 where
   pub before : List ℕ
   pub placed : TimedPackets
@@ -287,7 +287,7 @@ pub record LineOffends (reader : MccReader) (line : List ℕ) (place heard : ℕ
   pub place_is : place ≡ length before
   pub within : length (before ++ line) ≤ words_limit
 
--- the next bytes were taken, so many, or the run stopped within those that follow
+-- the next bytes were taken, this many, or the run stopped within those that follow
 abbrev pub TakesNext : Option (List ℕ) → Option (List ℕ) → List ℕ → List ℕ → List ℕ → Importing → Result ℕ (Stop MccStop) → Type 0
 TakesNext start then after before bytes importing (Ok count) = TakesBytes start then after (before ++ take count bytes) importing (Ok tt)
 TakesNext start then after before bytes importing (Err why) = HasHalted start then after (before ++ bytes) why

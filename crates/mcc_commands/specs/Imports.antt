@@ -12,7 +12,7 @@ use Rattle.mcc_commands.specs.Offences.{IsFirstOffence, IsWithoutOffence, Offend
 abbrev pub WordsAreOne : Type 0
 WordsAreOne = (placed : TimedPackets) (one other : List ℕ) → AreMccWords placed one → AreMccWords placed other → one ≡ other
 
--- the words of packets and of more behind them begin with the words of the first ones
+-- the words of packets and of more after them begin with the words of the first ones
 abbrev pub WordsGoOn : Type 0
 WordsGoOn = (front more : TimedPackets) (fewer words : List ℕ) → AreMccWords front fewer → AreMccWords (front ++ more) words
     → (rest : List ℕ) × (words ≡ fewer ++ rest)

@@ -13,13 +13,13 @@ use Rattle.mcc_words.specs.Close.{words_as_they_came}
 use Rattle.services_files.specs.CaptionChannel.{caption_channel}
 use Rattle.words_files.specs.Offences.{FirstOffendingWord, IsUnoffending}
 
--- the words of so many of a payload's bytes: the three of the flag, and one for each byte, two bytes each; none of no byte
+-- the words of this many of a payload's bytes: the three of the flag, and one for each byte, two bytes each; none of no byte
 abbrev pub front_words : Payload → ℕ → List ℕ
 front_words payload zero = []
 front_words payload (suc count) = take (2 * (count + 4)) (payload_words payload)
 
--- a word of an item offends behind bytes: no word of the packets and items before it does, and one of the item's bytes, as far as a payload
--- goes on with them
+-- a word of an item offends after bytes: no word of the packets and items before it does, and one of the item's bytes, as far as a payload
+-- continues with them
 pub record ItemOffends (before item : List ℕ) (refusal : Refusal) : Type 0 where
   pub items : List (List ℕ)
   pub awaits : AwaitsItem items before

@@ -8,7 +8,7 @@ use Rattle.mcc_files.specs.MccFiles.{TimedPackets}
 use Rattle.mcc_files.specs.PayloadWords.{payload_of}
 use Rattle.mcc_words.specs.MccWords.{carries_captions}
 
--- packets behind so many packets of captions, each at its frame
+-- packets after this many packets of captions, each at its frame
 abbrev pub packets_placed_from : ℕ → ℕ → List AncillaryPacket → TimedPackets
 packets_placed_from first captions [] = []
 packets_placed_from first captions (packet ∷ packets) =

@@ -48,7 +48,7 @@ impl Made {
         }
     }
 
-    /// Counts so many frames and bytes more, unless a limit is passed with them.
+    /// Counts this many frames and bytes more, unless a limit is passed with them.
     fn count(&mut self, frames: u64, bytes: u64) -> Result<(), LimitOf>
         requires frames { frames ≤ 2 ^ 40 }
         requires bytes { bytes ≤ 2 ^ 50 }
@@ -94,7 +94,7 @@ impl Made {
         }
     }
 
-    /// Adds the words of a packet of captions with these user bytes at a frame of the day, behind the frames that are missing before it: as they
+    /// Adds the words of a packet of captions with these user bytes at a frame of the day, after the frames that are missing before it: as they
     /// came, where its counter isn't raised.
     fn add_captions<O: Sink>(
         &mut self,
@@ -125,7 +125,7 @@ impl Made {
         self.add_words(missing, packet, text, out)
     }
 
-    /// Adds the words of the packet of captions with these user bytes that was begun, whose counter is raised, behind the frames that are
+    /// Adds the words of the packet of captions with these user bytes that was begun, whose counter is raised, after the frames that are
     /// missing before it.
     #[cold]
     fn add_raised<O: Sink>(
@@ -150,7 +150,7 @@ impl Made {
         self.add_words(missing, &words, text, out)
     }
 
-    /// Adds the words of the packet of captions that was begun, behind those of the frames that are missing before it.
+    /// Adds the words of the packet of captions that was begun, after those of the frames that are missing before it.
     fn add_words<O: Sink>(
         &mut self,
         missing: MissingFrames,

@@ -13,12 +13,12 @@ use std::alloc::Global;
 use text_output::Gathered;
 use words_reading::{Stop, TAKE, WORDS_LIMIT};
 
-/// Reads an MCC file, and puts the words of its packets, and where packets of captions stand more than one frame behind one another the
+/// Reads an MCC file, and puts the words of its packets, and where packets of captions stand more than one frame after one another the
 /// frames without captions that are missing between them. What one take gave is judged, and its packets put, before the next take.
 ///
 /// Malformed comes at the first offence of the file or of the words of its packets; then the packets of the lines that ended before were
 /// put. Limit (Frames) comes at a packet of captions with which more than 5,184,000 frames would be put, and Limit (Bytes) at a packet with
-/// which more than 2,147,483,647 bytes would be, and at the byte behind as many of the file; then nothing of the packet is put.
+/// which more than 2,147,483,647 bytes would be, and at the byte after as many of the file; then nothing of the packet is put.
 pub fn run_import_mcc<M: Source, O: Sink>(alloc: Global, input: &mut M, out: &mut O) -> Status
     ensures { RealisesLeaving ImportMccVerdict
         (ends (M.left input.old) (M.faults input.old) (O.written out.old) (O.faults out.old))

@@ -4,7 +4,7 @@ ghost use Rattle.mcc_commands.specs.Imports.{ImportsAreOne, NothingOffendsInImpo
 ghost use Rattle.mcc_commands.specs.Standing.{ImportsAreWordsFiles, ImportsStandApart, ImportsStandAtTheirFrames};
 ghost use Rattle.mcc_commands.specs.EveryInput.{EveryInputIsOne};
 
-/// The words of an MCC file's packets are one list of bytes, and where more packets stand behind packets, their words begin with the words
+/// The words of an MCC file's packets are one list of bytes, and where more packets stand after packets, their words begin with the words
 /// of these.
 pub fn words_are_one()
     ensures one { WordsAreOne }
@@ -23,7 +23,7 @@ pub fn imports_are_one()
 {}
 
 /// What an import puts of a file is a words file over all layers, whose frames are those of its packets of captions in their order, each
-/// behind the frames without captions that are missing before it; and where no two of these are at one frame of the day, each stands at its
+/// after the frames without captions that are missing before it; and where no two of these are at one frame of the day, each stands at its
 /// own, counted from that of the first one.
 pub fn imports_are_words_files()
     ensures file { ImportsAreWordsFiles }

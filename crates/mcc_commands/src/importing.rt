@@ -27,7 +27,7 @@ pub struct Importing {
     made: Made,
     // How many bytes of the file were taken.
     place: u64,
-    // Room for the reader behind a line, and for the words of a packet.
+    // Room for the reader after a line, and for the words of a packet.
     ahead: MccReader,
     words: ArrayVec<u8, ROOM>,
 }
@@ -51,7 +51,7 @@ fn read_line(reader: &mut MccReader, bytes: &[u8]) -> Option<usize>
     None
 }
 
-/// The same of bytes behind those that a reader took, byte by byte, with `ahead`, whatever it read.
+/// The same of bytes after those that a reader took, byte by byte, with `ahead`, whatever it read.
 #[cold]
 fn read_copied(reader: &MccReader, bytes: &[u8], ahead: &mut MccReader) -> Option<usize>
     ensures { (before : List ℕ) (placed : TimedPackets) → HasRead before placed reader.now
@@ -62,7 +62,7 @@ fn read_copied(reader: &MccReader, bytes: &[u8], ahead: &mut MccReader) -> Optio
     read_line(ahead, bytes)
 }
 
-/// The same, if a line begins behind them, and in one go where it has a time code, a tab and a payload and nothing else.
+/// The same, if a line begins after them, and in one go where it has a time code, a tab and a payload and nothing else.
 fn read_ahead(reader: &MccReader, bytes: &[u8], ahead: &mut MccReader) -> Option<usize>
     ensures start { IfSome result (λ _. is_at_start reader.now.phase ≡ true) }
     ensures line { (before : List ℕ) (placed : TimedPackets) → HasRead before placed reader.now
@@ -78,7 +78,7 @@ fn read_ahead(reader: &MccReader, bytes: &[u8], ahead: &mut MccReader) -> Option
     read_copied(reader, bytes, ahead)
 }
 
-/// Where a word of the packet in a line offends in the text: at its item. The line begins at such a place, behind so many bytes of words, and
+/// Where a word of the packet in a line offends in the text: at its item. The line begins at such a place, after this many bytes of words, and
 /// the word's place is counted with them.
 fn offence_in(reader: &MccReader, line: &[u8], place: u64, heard: u64, word: Refusal) -> Refusal
     requires { LineOffends reader.now line.now place heard word }
@@ -124,7 +124,7 @@ impl Importing {
         })
     }
 
-    /// Something offends, so many bytes before the one that is taken.
+    /// Something offends, this many bytes before the one that is taken.
     fn offends(&self, back: u8, why: Why) -> MccStop
         ensures { result ≡ stop.Offends (record { place = self.now.place - back; why = why }) }
     {
@@ -134,7 +134,7 @@ impl Importing {
         })
     }
 
-    /// Judges the words of the item that ends with a byte, if one does, as far as a payload goes on with it.
+    /// Judges the words of the item that ends with a byte, if one does, as far as a payload can continue with it.
     fn judge(&mut self, byte: u8) -> Result<(), MccStop>
         requires { MayTake self.old 1 }
         ensures { (bytes words : List ℕ) (had : HasImported bytes words self.old)

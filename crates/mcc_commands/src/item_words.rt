@@ -64,7 +64,7 @@ fn add_eight_bit(bytes: &[u8], out: &mut ArrayVec<u8, ROOM>)
     }
 }
 
-/// How many bytes the words have of so many bytes of a payload.
+/// How many bytes the words have of this many bytes of a payload.
 fn words_size(bytes: usize) -> usize
     requires { bytes ≤ 259 }
     ensures none { bytes ≡ 0 → result ≡ 0 }
@@ -73,7 +73,7 @@ fn words_size(bytes: usize) -> usize
     if bytes == 0 { 0 } else { 6 + 2 * bytes }
 }
 
-/// How many bytes the words have of bytes of a payload, so many behind the first ones.
+/// How many bytes the words have of bytes of a payload, this many after the first ones.
 pub(crate) fn words_more(first: usize, more: usize) -> u64
     requires { 0 < more → first + more ≤ 259 }
     ensures none { more ≡ 0 → result ≡ 0 }
@@ -99,7 +99,7 @@ pub(crate) fn put_packet(bytes: &[u8], out: &mut ArrayVec<u8, ROOM>)
     write_packet(did, sdid, user, out);
 }
 
-/// The last words of the packet of these bytes, behind those of so many bytes, into an empty `out`.
+/// The last words of the packet of these bytes, after those of this many bytes, into an empty `out`.
 fn add_last(from: usize, bytes: &[u8], out: &mut ArrayVec<u8, ROOM>)
     requires from { from ≤ length bytes.now }
     requires few { length bytes.now ≤ 259 }
@@ -115,7 +115,7 @@ fn add_last(from: usize, bytes: &[u8], out: &mut ArrayVec<u8, ROOM>)
     add(&words[size..], out);
 }
 
-/// The words of bytes of a payload behind the first ones, so many, into an empty `out`: with those of the first byte the ancillary data
+/// The words of bytes of a payload after the first ones, this many, into an empty `out`: with those of the first byte the ancillary data
 /// flag, and of a checksum byte the checksum word (SMPTE ST 291-1).
 pub(crate) fn put_words(from: usize, bytes: &[u8], out: &mut ArrayVec<u8, ROOM>)
     requires from { from < length bytes.now }

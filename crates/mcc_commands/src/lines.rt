@@ -13,7 +13,7 @@ use cc_base::Rate;
 use findings::{Finding, Kind45};
 use mcc_files::{LINE, packet_line, words_line};
 
-/// Writes the line of a packet that isn't of captions, behind so many that are, into an empty `line`.
+/// Writes the line of a packet that isn't of captions, after this many that are, into an empty `line`.
 pub(crate) fn foreign_line(
     packet: &[u8],
     clock: &Clock,
@@ -44,7 +44,7 @@ pub(crate) fn foreign_line(
     Ok(())
 }
 
-/// Writes the line of a packet of captions of this rate, behind so many of captions, into an empty `line`.
+/// Writes the line of a packet of captions of this rate, after this many of captions, into an empty `line`.
 pub(crate) fn caption_line(
     packet: &[u8],
     rate: Rate,

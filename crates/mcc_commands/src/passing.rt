@@ -40,7 +40,7 @@ impl Clock {
         self.last
     }
 
-    /// Passes a packet of captions of this rate, behind so many: the frame of the day at which it stands.
+    /// Passes a packet of captions of this rate, after this many: the frame of the day at which it stands.
     pub(crate) fn pass(&mut self, seen: Rate, number: u32) -> Result<u32, MccStop>
         ensures passes { (start : StartOf) (frames : List Frame)
             → StandsBehind start frames self.old → number ≡ length frames
@@ -67,7 +67,7 @@ impl Clock {
         Ok(last)
     }
 
-    /// The frame behind that of the packet of captions before, or that of frame 0.
+    /// The frame after that of the packet of captions before, or that of frame 0.
     fn next(&self) -> u32
         ensures { IsNext (clock_rate self.now) (clock_last self.now) result }
     {

@@ -76,7 +76,7 @@ line_text time text end one other (inr cr) = record {
   no_lf = both_no_lf ((time ++ 9 ∷ []) ++ text) (13 ∷ []) (both_no_lf (time ++ 9 ∷ []) text (both_no_lf time (9 ∷ []) one refl) other) refl;
 }
 
--- behind it
+-- after it
 abbrev behind_packet : State → List ℕ → ℕ → Open → State
 behind_packet s text frame front = started (in_payload (at_time s text frame) front) true
 

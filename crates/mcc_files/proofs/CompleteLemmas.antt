@@ -72,7 +72,7 @@ zeros_then (suc n) last small = more_bytes 0 (zeros n ++ last ∷ []) (omega ari
 pub checksum_small : (payload : Payload) → checksum_byte payload < 256
 checksum_small payload = omega arith
 
--- a packet goes on behind bytes
+-- a packet goes on after bytes
 pub record Completes (judging : Bool) (bytes : List ℕ) : Type 0 where
   pub more : List ℕ
   pub payload : Payload
@@ -203,7 +203,7 @@ begins_form items start bytes are is =
       };
     }
 
--- so does a first digit behind them, where they are no whole packet
+-- so does a first digit after them, where they are no whole packet
 pub begins_digit : (items : List (List ℕ)) (start bytes : List ℕ) (digit high : ℕ) → AreItems items start → joined true [] (concat items) ≡ Ok bytes
     → hex_value digit ≡ Some high → is_whole bytes ≡ false → BeginsForm (start ++ digit ∷ [])
 begins_digit items start bytes digit high are is digit_is open_yet =

@@ -9,7 +9,7 @@ use Rattle.mcc_files.specs.Payloads.{IsPayload, Payload}
 use Rattle.mcc_files.proofs.WrittenLemmas.{written_is_payload}
 use Rattle.mcc_files.proofs.TimeLemmas.{colon_time, frame_again, two_digits}
 
--- what the lines of packets say, and the empty one behind them
+-- what the lines of packets say, and the empty one after them
 pub packet_lines : Counting → TimedPackets → List Line
 packet_lines count [] = nothing ∷ []
 packet_lines count (placed ∷ more) = packet (colon_time count placed.0) placed.1 ∷ packet_lines count more
@@ -34,7 +34,7 @@ line_is version count frame payload text below is = record {
   spelled = ap (λ t. time_text count frame ++ (9 ∷ t)) (sym (append-nil text));
 }
 
--- the lines of packets, behind a line end
+-- the lines of packets, after a line end
 pub lines_are : (version : Version) (count : Counting) (last : ℕ) (placed : TimedPackets) (bytes : List ℕ) → AreWritable count last placed → AreWrittenLines count placed bytes
     → AreMccLines version (packet_lines count placed) (10 ∷ bytes)
 unfolding packet_lines
@@ -118,7 +118,7 @@ time = record {
 pub counted : (count : Counting) → IsRate count (rate_name ++ (61 ∷ counting_text count))
 counted count = record { spaces = []; are_spaces = tt; spelled = ap (λ t. rate_name ++ (61 ∷ t)) (sym (append-nil (counting_text count))) }
 
--- a line of its own, behind LF
+-- a line of its own, after LF
 pub line_more : (version : Version) (line : Line) (lines : List Line) (spelled rest : List ℕ) → IsMccLine version line spelled → AreMccLines version lines rest
     → AreMccLines version (line ∷ lines) (10 ∷ (spelled ++ rest))
 line_more version line lines spelled rest is are = (10 ∷ [], spelled, rest, inl refl, is, are, refl)

@@ -54,7 +54,7 @@ pub started_same : (s : State) (to : Phase) (gives : Bool) → started (in_phase
 started_same s to true = refl
 started_same s to false = refl
 
--- behind a CR
+-- after a CR
 pub behind_lf : (p : Phase) (s : State) (gives : Bool) → ends_in p s.payload.bytes ≡ Some gives → take_byte (in_phase s (behind_cr p gives)) 10 ≡ Ok (started s gives)
 behind_lf (phase.First at) s gives is = absurd (none_is_some gives is)
 behind_lf phase.FirstSpaces s gives is =

@@ -19,7 +19,7 @@ use Rattle.mcc_files.proofs.ReadLemmas.{items_lead, under_leads}
 use Rattle.mcc_files.proofs.SoundLemmas.{Takes, as_letter, as_first, as_second, ends_here, open_so, packet_so, step_so}
 use Rattle.mcc_files.proofs.StepLemmas.{at_bytes, joined_both, joined_is, leads, leads_both}
 
--- no text goes on with a byte at which the reading stops
+-- no text can continue with a byte at which the reading stops
 pub no_going_on : (judging : Bool) (start front : Open) (before : List ℕ) (byte : ℕ) (more : List ℕ) (to : Open) (offence : Offence)
     → leads judging start before front → step judging front byte ≡ Err offence → leads judging start (before ++ byte ∷ more) to → ⊥
 no_going_on judging start front [] byte more to offence lead stops goes =
@@ -53,7 +53,7 @@ pub form_leads : (text : List ℕ) → (form : IsPayloadForm text) → leads fal
 form_leads text form =
     under_leads false form.payload form.checksum text (record { items = form.items; are = form.are; stand_for = form.stand_for; right = λ on. absurd (cc) })
 
--- how the text stands that was read: at an item's end, or behind a first digit
+-- how the text stands that was read: at an item's end, or after a first digit
 pub data Stands (before : List ℕ) (front : Open) : Type 0 where
   at_item : (items : List (List ℕ)) (bytes : List ℕ) → AreItems items before → joined true [] (concat items) ≡ Ok bytes → front ≡ at_bytes bytes → Stands before front
   at_digit : (start : List ℕ) (items : List (List ℕ)) (digit high : ℕ) (bytes : List ℕ) → before ≡ start ++ digit ∷ [] → AreItems items start
@@ -166,7 +166,7 @@ pub wrong_ends : (back : ℕ) (result : Result (List ℕ) Why) (offence : Offenc
 wrong_ends back (Ok bytes) offence is = absurd (cc)
 wrong_ends back (Err reason) offence is = (reason, refl, cc)
 
--- nothing is joined behind a whole packet
+-- nothing is joined after a whole packet
 pub whole_refuses : (bytes : List ℕ) (byte : ℕ) → is_whole bytes ≡ true → why_of_byte true bytes byte ≡ Some why.MccSyntax
 whole_refuses [] byte whole = absurd (cc)
 whole_refuses (did ∷ []) byte whole = absurd (cc)
@@ -183,7 +183,7 @@ letter_refused bytes brought byte letter_is whole =
 pub whole_stop : (judging : Bool) (front : Open) (byte : ℕ) → is_whole front.bytes ≡ true → step judging front byte ≡ no_item
 whole_stop judging front byte whole = rw whole refl
 
--- behind a whole packet
+-- after a whole packet
 pub refused_whole : (front : Open) (byte : ℕ) (offence : Offence) (found : Option (List ℕ)) → letter_bytes byte ≡ found → front.digit ≡ None → is_whole front.bytes ≡ true
     → no_item ≡ Err offence → Refuses front byte offence
 refused_whole front byte offence (Some brought) letter_is none whole is =
@@ -219,7 +219,7 @@ pub refused_by : (front : Open) (byte : ℕ) (offence : Offence) (whole : Bool) 
 refused_by front byte offence true whole closed is = refused_whole front byte offence (letter_bytes byte) refl (closed refl) whole is
 refused_by front byte offence false whole closed is = refused_open front.digit front.bytes byte offence whole is
 
--- lists that agree behind as many items agree there
+-- lists that agree after as many items agree there
 pub same_front : (xs ys : List ℕ) (a b : ℕ) (back behind : List ℕ) → length xs ≡ length ys → xs ++ a ∷ back ≡ ys ++ b ∷ behind → (xs ≡ ys) × (a ≡ b)
 same_front [] [] a b back behind long same = (refl, cc)
 same_front [] (y ∷ ys) a b back behind long same = absurd (omega (arith, long))
@@ -358,7 +358,7 @@ closed_of before front (at_digit start items digit high bytes spelled are is dig
 abbrev pub refusal_at : ℕ → Offence → Refusal
 refusal_at place offence = record { place = place - offence.back; why = offence.why }
 
--- an item offends behind items
+-- an item offends after items
 pub item_offends : (text before rest item brought : List ℕ) (items : List (List ℕ)) (bytes : List ℕ) (reason : Why) (place : ℕ) → text ≡ before ++ (item ++ rest)
     → AreItems items before → joined true [] (concat items) ≡ Ok bytes → IsItem brought item → joined true bytes brought ≡ Err reason
     → (BeginsPayload (before ++ item) → ⊥) → place ≡ length before → ItemOffends text (record { place = place; why = reason })
@@ -379,7 +379,7 @@ item_offends text before rest item brought items bytes reason place spelled are 
       why_is = item_why (concat items) brought reason (is ∙ ap (λ b. Ok b) same) (subst (λ b. joined true b brought ≡ Err reason) same wrong);
     }
 
--- no payload goes on with a byte at which the reading stops
+-- no payload can continue with a byte at which the reading stops
 pub no_payload_on : (before : List ℕ) (front : Open) (byte : ℕ) (offence : Offence) → Stands before front → step true front byte ≡ Err offence → BeginsPayload (before ++ byte ∷ []) → ⊥
 no_payload_on before front byte offence stands stops begins =
     let lead = payload_leads before byte begins in

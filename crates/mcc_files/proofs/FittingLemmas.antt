@@ -10,7 +10,7 @@ use Rattle.mcc_files.proofs.ItemLemmas.{AreTaken, none_taken, one_taken}
 use Rattle.mcc_files.proofs.LetterLemmas.{IsKnown, known, length_fillers}
 use Rattle.mcc_files.proofs.LetterLemmas.IsKnown.{blank, captions, fills, first, identifier, long, second, zeros}
 
--- so many of the bytes fit
+-- this many of the bytes fit
 pub record FitSoFar (before brought : List ℕ) (i : ℕ) (counted : Counted) (fit : List ℕ) : Type 0 where
   pub taken : AreTaken before (take i brought) counted
   pub are : fit ≡ take i brought
@@ -23,7 +23,7 @@ none_fit before brought counted are short = record {
   all = ap (λ b. fitting b brought) (sym (append-nil before));
 }
 
--- behind some bytes one more fits
+-- after some bytes one more fits
 pub fits_one : (before : List ℕ) (byte : ℕ) (rest : List ℕ) → why_of_byte true before byte ≡ None → fitting before (byte ∷ rest) ≡ byte ∷ fitting (before ++ byte ∷ []) rest
 fits_one before byte rest fine = ap (λ o. fits_on o byte (fitting (before ++ byte ∷ []) rest)) fine
 

@@ -435,7 +435,7 @@ time_next s next t front byte f false whole is =
     })
     same
 
--- behind it
+-- after it
 pub timed_next : (s next : State) (t : Told) (front : List ℕ) (byte : ℕ) → TimedBy (told_of s) t front → taken s (s.two && (byte == 46)) (in_phase s phase.Dot) ≡ Ok next
     → Next s t (front ++ byte ∷ []) next
 timed_next s next t front byte f is =
@@ -515,7 +515,7 @@ digits_next s next t many front byte f is =
     })
     same
 
--- a payload begins behind what is read past
+-- a payload begins after what is read past
 pub begins_next : (s next : State) (t : Told) (front text past : List ℕ) (byte : ℕ) → TimedBy (told_of s) t text → IsReadPast (version_of s.two) past → front ≡ text ++ past → byte ≡ 9
     → payload_begins s ≡ next → Next s t (front ++ byte ∷ []) next
 begins_next s next t front text past byte timed is_past spelled tab same =

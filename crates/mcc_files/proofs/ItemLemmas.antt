@@ -7,7 +7,7 @@ use Rattle.mcc_files.specs.PayloadReading.{joined, why_of_byte}
 use Rattle.mcc_files.specs.declared.payload_reader.Counted.{Counted}
 use Rattle.mcc_files.proofs.StepLemmas.{joined_both}
 
--- so many were taken behind those before
+-- this many were taken after those before
 pub record AreTaken (before taken : List ℕ) (counted : Counted) : Type 0 where
   pub join : joined true before taken ≡ Ok (before ++ taken)
   pub count : AreCounted (before ++ taken) counted

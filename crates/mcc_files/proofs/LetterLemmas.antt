@@ -54,7 +54,7 @@ pub length_fillers : (count : ℕ) → length (fillers count) ≡ 3 * count
 length_fillers zero = refl
 length_fillers (suc count) = omega (arith, length_fillers count)
 
--- as many times FA 00 00 as stand at the front of bytes at most, where as many stand there that behind these none does
+-- as many times FA 00 00 as stand at the front of bytes at most, where as many stand there that after these none does
 pub fewer : (count more : ℕ) (rest behind : List ℕ) → fillers count ++ rest ≡ fillers more ++ behind
     → ((others : List ℕ) → behind ≡ 0xFA ∷ 0x00 ∷ 0x00 ∷ others → ⊥) → count ≤ more
 fewer zero more rest behind same none = omega arith

@@ -157,7 +157,7 @@ item_stops place bytes brought item rest reason false open_yet (inr l) wrong =
     subst (λ t. read_from true place (at_bytes bytes) (t ++ rest) ≡ stopped place reason) (sym l.spelled)
     (stop_on place 0 reason (at_bytes bytes) l.letter rest place stops (omega arith))
 
--- an item that is joined goes on with a payload
+-- an item that is joined continues with a payload
 pub item_goes_on : (items : List (List ℕ)) (before bytes item after : List ℕ) → AreItems items before → joined true [] (concat items) ≡ Ok (concat items)
     → IsItem bytes item → joined true (concat items) bytes ≡ Ok after → BeginsPayload (before ++ item)
 item_goes_on items before bytes item after are is one join =
@@ -191,7 +191,7 @@ pub record StandsFor (before open_text : List ℕ) : Type 0 where
   pub stands : Stands before front
   pub empty : front.digit ≡ None → open_text ≡ []
 
--- no payload in form has a digit behind a whole packet
+-- no payload in form has a digit after a whole packet
 pub digit_open : (start : List ℕ) (items : List (List ℕ)) (digit : ℕ) → AreItems items start → joined true [] (concat items) ≡ Ok (concat items)
     → BeginsForm (start ++ digit ∷ []) → (whole : Bool) → is_whole (concat items) ≡ whole → is_whole (concat items) ≡ false
 digit_open start items digit are is begins true whole =

@@ -222,7 +222,7 @@ in_line_origin phase.Payload before s is o = o
 in_line_origin phase.Behind before s is o = o
 in_line_origin (phase.End gives) before s is o = o
 
--- the first line, or a line behind it
+-- the first line, or a line after it
 pub data Where (p : Phase) (before : List ℕ) (s : State) : Type 0 where
   in_first : (at : ℕ) → p ≡ phase.First at → InFirst at before s → Where p before s
   behind_first_text : p ≡ phase.FirstSpaces → BehindFirst [] before s → Where p before s
@@ -325,7 +325,7 @@ pub cr_so : (s next : State) (found : Option Bool) → ended_by_cr s found ≡ O
 cr_so s next (Some gives) is = (gives, refl, ok_same (in_phase s (behind_cr s.phase gives)) next is)
 cr_so s next None is = absurd (cc)
 
--- what a line tells is the same behind its CR
+-- what a line tells is the same after its CR
 pub under_end : (s : State) (t : Told) (line : Line) (gives : Bool) → Tells t line (told_of (started s gives)) → Tells t line (told_of (started (in_phase s (phase.End gives)) gives))
 under_end s t line true tells = tells
 under_end s t line false tells = tells

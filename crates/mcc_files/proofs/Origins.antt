@@ -23,7 +23,7 @@ version_of true = two
 abbrev pub told_of : State → Told
 told_of s = record { count = s.count; last = s.last; placed = s.placed }
 
--- so many bytes of the rate's name are the name; or it is another one
+-- this many bytes of the rate's name are the name; or it is another one
 abbrev pub NameMatches : ℕ → List ℕ → Type 0
 NameMatches zero name = (more : List ℕ) → name ++ more ≡ rate_name → ⊥
 NameMatches (suc k) name = (suc k ≤ 14) × (name ≡ take (suc k) rate_name)
@@ -128,7 +128,7 @@ pub record EndFront (gives second : Bool) (payload : Open) (now t : Told) (front
   pub tells : Tells t line now
   pub spelled : front ≡ text ++ 13 ∷ []
 
--- the open line, behind lines that told this
+-- the open line, after lines that told this
 abbrev pub Front : Phase → State → Told → List ℕ → Type 0
 Front phase.Start s t front = (front ≡ []) × (told_of s ≡ t)
 Front phase.Blank s t front = AreBlanks front × (told_of s ≡ t)

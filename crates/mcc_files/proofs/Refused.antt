@@ -40,7 +40,7 @@ use Rattle.mcc_files.proofs.RunLemmas.{StopsAt, ok_one, refused_stays, run_more,
 use Rattle.mcc_files.proofs.UnitReads.{RefusedSo, before_why, by_digits, by_letter, err_same, goes_err, item_refused, letter_no_cr, letter_no_lf, rate_refused, time_refused, timed_err, unoffending_runs}
 use Rattle.mcc_files.proofs.Unoffending.{awaits_item, awaits_of, before_digit, ends_line, front_of, unoffending}
 
--- the refusal of an offence behind bytes
+-- the refusal of an offence after bytes
 abbrev pub refusal_at : List ℕ → Offence → Refusal
 refusal_at before o = record { place = length before - o.back; why = o.why }
 

@@ -57,7 +57,7 @@ ok_err x s o one other = cc
 pub run_first : (s : State) (byte : ℕ) (bytes : List ℕ) (u : State) → run s (byte ∷ bytes) ≡ Ok u → RunsTo s (byte ∷ [])
 run_first s byte bytes u is = run_front s (byte ∷ []) bytes u is
 
--- where a byte is refused nothing goes on with it
+-- where a byte is refused nothing can continue with it
 pub refused_stays : (s : State) (before : List ℕ) (byte : ℕ) (more : List ℕ) (t u : State) (o : Offence) → run s before ≡ Ok t → take_byte t byte ≡ Err o
     → run s (before ++ byte ∷ more) ≡ Ok u → ⊥
 refused_stays s before byte more t u o reaches refused all =
@@ -65,7 +65,7 @@ refused_stays s before byte more t u o reaches refused all =
     let w = went (take_byte t byte) (λ n. run n more) u rest in
     ok_err (take_byte t byte) w.next o w.stepped refused
 
--- what is read behind bytes
+-- what is read after bytes
 pub read_on : (place : ℕ) (s : State) (xs ys : List ℕ) (t : State) → run s xs ≡ Ok t → read_from place s (xs ++ ys) ≡ read_from (place + length xs) t ys
 read_on place s [] ys t is =
     subst (λ (p : ℕ). read_from place s ys ≡ read_from p t ys) (sym (add-zero place)) (ap (λ r. read_from place r ys) (ok_same s t is))

@@ -59,21 +59,21 @@ pub step_so : (judging : Bool) (front : Open) (byte : ℕ) (next : Open) → ste
 step_so judging front byte next is =
     stepped_so judging front.digit front.bytes byte next (open_so (is_whole front.bytes) (stepped judging front.digit front.bytes byte) next is).1
 
--- the text behind an open digit, or behind none, is items
+-- the text after an open digit, or after none, is items
 abbrev pub GoesOn : Option ℕ → List (List ℕ) → List ℕ → Type 0
 GoesOn None items text = AreItems items text
 GoesOn (Some high) [] text = ⊥
 GoesOn (Some high) (bytes ∷ items) text =
     (low : ℕ) × (second : ℕ) × (rest : List ℕ) × (text ≡ low ∷ rest) × (hex_value low ≡ Some second) × (bytes ≡ (16 * high + second) ∷ []) × AreItems items rest
 
--- what was read behind a front
+-- what was read after a front
 pub record HasItems (judging : Bool) (front : Open) (text bytes : List ℕ) : Type 0 where
   pub items : List (List ℕ)
   pub go_on : GoesOn front.digit items text
   pub join : joined judging front.bytes (concat items) ≡ Ok bytes
   pub whole : is_whole bytes ≡ true
 
--- what is read behind a byte
+-- what is read after a byte
 pub behind_so : (place : ℕ) (one : Result Open Offence) (rest : Open → Result (List ℕ) Refusal) (bytes : List ℕ) → behind place one rest ≡ Ok bytes
     → (next : Open) × (one ≡ Ok next) × (rest next ≡ Ok bytes)
 behind_so place (Ok next) rest bytes is = (next, refl, is)
@@ -141,7 +141,7 @@ ended_whole false front bytes place is = absurd (cc)
 pub differ : (b : Bool) → b ≡ false → b ≡ true → ⊥
 differ b is other = cc
 
--- behind a byte no digit is open where the packet is whole
+-- after a byte no digit is open where the packet is whole
 pub closed_so : (judging : Bool) (front : Open) (byte : ℕ) (next : Open) → Takes judging front byte next → is_whole front.bytes ≡ false
     → is_whole next.bytes ≡ true → next.digit ≡ None
 closed_so judging front byte next (as_letter brought none letter_is join ended) open_yet whole = ended
@@ -161,7 +161,7 @@ sound_from judging place front (byte ∷ text) bytes closed is =
     let open_yet = (open_so (is_whole front.bytes) (stepped judging front.digit front.bytes byte) next one).0 in
     has_more judging front byte next text bytes takes (sound_from judging (place + 1) next text bytes (closed_so judging front byte next takes open_yet) rest)
 
--- what is joined behind the count of a packet that is whole then: its user bytes and its checksum byte
+-- what is joined after the count of a packet that is whole then: its user bytes and its checksum byte
 pub record HasUser (judging : Bool) (did sdid count : ℕ) (done rest : List ℕ) : Type 0 where
   pub user : List ℕ
   pub checksum : ℕ

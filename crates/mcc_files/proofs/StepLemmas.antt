@@ -7,7 +7,7 @@ use Rattle.mcc_files.specs.Letters.{letter_bytes}
 use Rattle.mcc_files.specs.PayloadReading.{Open, is_whole, joined, joined_on, read_from, step, why_of_byte}
 use Rattle.mcc_files.proofs.LetterLemmas.{no_letter_is_digit}
 
--- nothing goes on behind a whole packet
+-- nothing goes on after a whole packet
 pub whole_stops : (judging : Bool) (bytes : List ℕ) (byte : ℕ) → is_whole bytes ≡ true → why_of_byte judging bytes byte ≡ None → ⊥
 whole_stops judging [] byte whole fine = cc
 whole_stops judging (did ∷ []) byte whole fine = cc
@@ -62,7 +62,7 @@ pub leads_both : (judging : Bool) (front : Open) (xs ys : List ℕ) (middle to :
 leads_both judging front [] ys middle to first second = subst (λ f. leads judging f ys to) (sym first) second
 leads_both judging front (x ∷ xs) ys middle to first second = (first.0, first.1, leads_both judging first.0 xs ys middle to first.2 second)
 
--- what is read behind a text that leads somewhere
+-- what is read after a text that leads somewhere
 pub read_leads : (judging : Bool) (place : ℕ) (front : Open) (text more : List ℕ) (to : Open) → leads judging front text to
     → read_from judging place front (text ++ more) ≡ read_from judging (place + length text) to more
 read_leads judging place front [] more to is = subst (λ f. read_from judging place front more ≡ read_from judging (place + 0) f more) is (rw add-zero refl)
@@ -72,7 +72,7 @@ read_leads judging place front (byte ∷ text) more to is =
     let at : place + 1 + length text ≡ place + suc (length text) = omega arith in
     rw one (subst (λ p. read_from judging (place + 1) next (text ++ more) ≡ read_from judging p to more) at (read_leads judging (place + 1) next text more to is.2))
 
--- a packet is not whole where a byte behind it is taken
+-- a packet is not whole where a byte after it is taken
 pub not_whole : (judging : Bool) (before : List ℕ) (byte : ℕ) (bytes all : List ℕ) → joined judging before (byte ∷ bytes) ≡ Ok all → is_whole before ≡ false
 not_whole judging before byte bytes all is =
     let h = joined_first (why_of_byte judging before byte) (joined judging (before ++ byte ∷ []) bytes) all is in

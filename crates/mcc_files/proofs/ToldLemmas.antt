@@ -13,7 +13,7 @@ pub record Told : Type 0 where
 abbrev pub told_nothing : Told
 told_nothing = record { count = None; last = None; placed = [] }
 
--- what a line tells behind others
+-- what a line tells after others
 abbrev pub Tells : Told → Line → Told → Type 0
 Tells t nothing u = u ≡ t
 Tells t attribute u = (t.last ≡ None) × (u ≡ t)

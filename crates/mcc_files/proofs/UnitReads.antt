@@ -218,7 +218,7 @@ item_placed items bytes a =
     let none : f.gives ≡ false = some_gives f.gives false (sym f.may ∙ (ap (λ (x : State). ends x) same ∙ may)) in
     ap (λ (x : State). x.placed) (sym same) ∙ (sym (ap (λ (g : Bool). placed_with f.to g) none) ∙ f.all)
 
--- behind the first digit of one
+-- after the first digit of one
 pub digit_runs : (items : List (List ℕ)) (start : List ℕ) (digit high : ℕ) (a : AwaitingItem items start) → hex_value digit ≡ Some high
     → run at_first (start ++ digit ∷ []) ≡ Ok (in_payload a.to (record { digit = Some high; bytes = concat items }))
 digit_runs items start digit high a is =

@@ -23,7 +23,7 @@ one_filler_more all rest behind count next before front at =
 pub all_left : (size : ℕ) (bytes : List ℕ) → take (length bytes - size) (drop size bytes) ≡ drop size bytes
 all_left size bytes = subst (λ n. take n (drop size bytes) ≡ drop size bytes) (length-drop size bytes) (take-length (drop size bytes))
 
--- so many bytes in front
+-- this many bytes in front
 pub front_of : (front back : List ℕ) → (take (length front) (front ++ back) ≡ front) × (drop (length front) (front ++ back) ≡ back)
 front_of [] back = (refl, refl)
 front_of (x ∷ front) back = let below = front_of front back in (ap (λ xs. x ∷ xs) below.0, below.1)
@@ -128,7 +128,7 @@ filler_best count size bytes ahead same enough a b c =
           omega (arith, least, stands);
     }
 
--- what is written of the rest behind a letter
+-- what is written of the rest after a letter
 pub letter_more : (all rest out : List ℕ) (letter_is size : ℕ) → ((text : List ℕ) → IsWritten rest text → IsWritten all (out ++ text))
     → FitsBest rest letter_is (take size rest) (drop size rest) → (text : List ℕ) → IsWritten (take (length rest - size) (drop size rest)) text
     → IsWritten all ((out ++ letter_is ∷ []) ++ text)
@@ -136,7 +136,7 @@ letter_more all rest out letter_is size before best text is =
     subst (λ t. IsWritten all t) (sym (append_assoc out (letter_is ∷ []) text))
     (before (letter_is ∷ text) (letter rest letter_is (take size rest) (drop size rest) text best (subst (λ xs. IsWritten xs text) (all_left size rest) is)))
 
--- and behind two digits
+-- and after two digits
 pub digits_more : (all rest out : List ℕ) (byte high low : ℕ) → ((text : List ℕ) → IsWritten rest text → IsWritten all (out ++ text))
     → rest ≡ byte ∷ drop 1 rest → FitsNone rest → high ≡ upper_hex_digit (byte / 16) → low ≡ upper_hex_digit (byte % 16)
     → (text : List ℕ) → IsWritten (take (length rest - 1) (drop 1 rest)) text → IsWritten all (((out ++ high ∷ []) ++ low ∷ []) ++ text)

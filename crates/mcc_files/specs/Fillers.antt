@@ -3,7 +3,7 @@
 use Rattle.std.specs.Prelude.{◌≡◌, ℕ, ◌≤◌, List, ◌∷◌, ◌++◌}
 use Rattle.mcc_files.specs.Letters.{fillers}
 
--- so many, at most 9: with fewer than 9 none stands behind them
+-- this many, at most 9: with fewer than 9 none follows them
 pub record AreAhead (count : ℕ) (bytes : List ℕ) : Type 0 where
   pub behind : List ℕ
   pub spelled : bytes ≡ fillers count ++ behind

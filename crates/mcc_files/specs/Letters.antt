@@ -3,7 +3,7 @@
 -- count, null pairs of both fields, the identifier of a distribution packet, DID and SDID of captions, and zeros.
 use Rattle.std.specs.Prelude.{ℕ, zero, suc, ◌-◌, ◌==◌, ◌&&◌, if◌then◌else◌, nat_le, List, [], ◌∷◌, Option, Some, None}
 
--- so many times FA 00 00
+-- this many times FA 00 00
 abbrev pub fillers : ℕ → List ℕ
 fillers zero = []
 fillers (suc count) = 0xFA ∷ 0x00 ∷ 0x00 ∷ fillers count

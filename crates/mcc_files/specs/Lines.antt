@@ -1,6 +1,6 @@
 -- Believed: the program's answer stands on these definitions.
 -- The lines of MCC files, by cases on what a line says, and which bytes are an MCC file in form: its first line, and then lines that are
--- blank, comments, attributes, the time code rate among them, or packets. Every line but the first stands behind the line end of the line
+-- blank, comments, attributes, the time code rate among them, or packets. Every line but the first follows the line end of the line
 -- before it, so the last line's end is one more blank line.
 use Rattle.std.specs.Prelude.{◌≡◌, ◌≢◌, ℕ, ◌≤◌, ◌⊎◌, ◌==◌, ◌&&◌, ◌||◌, not, Bool, true, nat_le, List, [], ◌∷◌, ◌++◌, codes, length}
 use Rattle.std.specs.List.{list_all}
@@ -81,7 +81,7 @@ pub record IsRate (count : Counting) (bytes : List ℕ) : Type 0 where
 abbrev pub AreDecimals : List ℕ → Type 0
 AreDecimals bytes = list_all is_digit bytes ≡ true
 
--- `.` and `0` or `1`, and behind these perhaps `,` and one to five digits
+-- `.` and `0` or `1`, and after these perhaps `,` and one to five digits
 pub record IsFieldPart (bytes : List ℕ) : Type 0 where
   pub field : ℕ
   pub rest : List ℕ
@@ -89,7 +89,7 @@ pub record IsFieldPart (bytes : List ℕ) : Type 0 where
   pub is_rest : (rest ≡ []) ⊎ ((digits : List ℕ) × AreDecimals digits × (1 ≤ length digits) × (length digits ≤ 5) × (rest ≡ 44 ∷ digits))
   pub spelled : bytes ≡ 46 ∷ field ∷ rest
 
--- what may stand behind a time code's text, which is read past: nothing, or with version 2 such a part
+-- what may follow a time code's text, which is read past: nothing, or with version 2 such a part
 abbrev pub IsReadPast : Version → List ℕ → Type 0
 IsReadPast one bytes = bytes ≡ []
 IsReadPast two bytes = (bytes ≡ []) ⊎ IsFieldPart bytes
@@ -113,7 +113,7 @@ IsMccLine version attribute bytes = IsAttribute bytes
 IsMccLine version (rate count) bytes = IsRate count bytes
 IsMccLine version (packet time payload) bytes = IsPacketLine version time payload bytes
 
--- lines, each behind a line end
+-- lines, each after a line end
 abbrev pub AreMccLines : Version → List Line → List ℕ → Type 0
 AreMccLines version [] bytes = bytes ≡ []
 AreMccLines version (line ∷ lines) bytes =

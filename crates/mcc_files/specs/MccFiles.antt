@@ -1,6 +1,6 @@
 -- Believed: the program's answer stands on these definitions.
 -- Which bytes are an MCC file of which packets at which frames of the day. The time code rate stands once, attributes before the first
--- packet, and packets behind the time code rate; no packet's time code is before that of the packet before.
+-- packet, and packets after the time code rate; no packet's time code is before that of the packet before.
 use Rattle.std.specs.Prelude.{◌≡◌, ℕ, ◌≤◌, List, [], ◌∷◌, Ok}
 use Rattle.time_codes.specs.Countings.{frame_in}
 use Rattle.time_codes.specs.declared.counting.Counting.{Counting}
@@ -11,7 +11,7 @@ use Rattle.mcc_files.specs.Payloads.{Payload}
 abbrev pub TimedPackets : Type 0
 TimedPackets = List (ℕ × Payload)
 
--- lines behind a packet of this frame: further packets, none before it
+-- lines after a packet of this frame: further packets, none before it
 abbrev pub SayPackets : Counting → ℕ → List Line → TimedPackets → Type 0
 SayPackets count last [] placed = placed ≡ []
 SayPackets count last (nothing ∷ lines) placed = SayPackets count last lines placed
@@ -20,7 +20,7 @@ SayPackets count last (rate other ∷ lines) placed = ⊥
 SayPackets count last (packet time payload ∷ lines) placed =
     (frame : ℕ) × (rest : TimedPackets) × (frame_in count time ≡ Ok frame) × (last ≤ frame) × SayPackets count frame lines rest × (placed ≡ (frame, payload) ∷ rest)
 
--- lines behind the time code rate
+-- lines after the time code rate
 abbrev pub SayCounted : Counting → List Line → TimedPackets → Type 0
 SayCounted count [] placed = placed ≡ []
 SayCounted count (nothing ∷ lines) placed = SayCounted count lines placed

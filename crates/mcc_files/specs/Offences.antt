@@ -1,8 +1,8 @@
 -- Believed in part: the program's answer stands on some of these definitions.
--- Where bytes first offend that are no MCC file. A byte offends where no file goes on with it. The text of a time code, an item of a
+-- Where bytes first offend that are no MCC file. A byte offends where no file can continue with it. The text of a time code, an item of a
 -- payload, and the name of a time code rate with its `=` are units: such a one is judged when it is whole, and offends at its first byte.
--- So nothing offends in bytes with which some file begins, nor in those that end within a time code's text behind the lines of a file with a
--- time code rate, or behind the first digit of an item.
+-- So nothing offends in bytes with which some file begins, nor in those that end within a time code's text after the lines of a file with a
+-- time code rate, or after the first digit of an item.
 use Rattle.std.specs.Prelude.{◌≡◌, ◌≢◌, ℕ, ◌⊎◌, ◌==◌, if◌then◌else◌, List, [], ◌∷◌, ◌++◌, length, IsSome}
 use Rattle.std.specs.List.{concat}
 use Rattle.cc_base.specs.declared.refusal.Refusal.{Refusal}
@@ -30,7 +30,7 @@ pub record BeginsMccFile (bytes : List ℕ) : Type 0 where
 abbrev pub HasMccRate : Counting → List Line → Type 0
 HasMccRate count lines = (before : List Line) × (after : List Line) × (lines ≡ before ++ (rate count ∷ after))
 
--- behind the bytes a time code's text may stand: they are the lines of a file, the last one ended, with this time code rate
+-- after the bytes a time code's text may stand: they are the lines of a file, the last one ended, with this time code rate
 pub record AwaitsTime (version : Version) (count : Counting) (bytes : List ℕ) : Type 0 where
   pub lines : List Line
   pub placed : TimedPackets
@@ -39,7 +39,7 @@ pub record AwaitsTime (version : Version) (count : Counting) (bytes : List ℕ) 
   pub has_rate : HasMccRate count lines
   pub ends : EndsLine bytes
 
--- behind the bytes an item may stand: some file begins with them, and they end with a time code's text, what is read past, TAB, and these
+-- after the bytes an item may stand: some file begins with them, and they end with a time code's text, what is read past, TAB, and these
 -- items, which are no whole payload yet
 pub record AwaitsItem (items : List (List ℕ)) (bytes : List ℕ) : Type 0 where
   pub version : Version
@@ -72,7 +72,7 @@ pub record EndsInTime (bytes : List ℕ) : Type 0 where
   pub some_back : back ≢ []
   pub spelled : bytes ≡ start ++ front
 
--- the bytes end behind the first digit of an item
+-- the bytes end after the first digit of an item
 pub record EndsInItem (bytes : List ℕ) : Type 0 where
   pub items : List (List ℕ)
   pub start : List ℕ
@@ -122,7 +122,7 @@ pub record EndsRate (bytes : List ℕ) (refusal : Refusal) : Type 0 where
 abbrev pub EndsUnit : List ℕ → Refusal → Type 0
 EndsUnit bytes refusal = EndsTime bytes refusal ⊎ (EndsItem bytes refusal ⊎ EndsRate bytes refusal)
 
--- the reason where no line goes on behind bytes: Header within the first line, before any LF
+-- the reason where no line goes on after bytes: Header within the first line, before any LF
 abbrev pub mcc_line_why : List ℕ → Why
 mcc_line_why [] = why.Header
 mcc_line_why (byte ∷ bytes) = if byte == 10 then why.MccSyntax else mcc_line_why bytes

@@ -1,8 +1,8 @@
 -- Believed in part: the program's answer stands on some of these definitions.
 -- Where text first offends that is no payload. An item is judged when it is whole: it offends where some payload begins with the items
--- before it, and none with these and the item. A byte with which no item begins or goes on offends itself; so does one behind a whole
+-- before it, and none with these and the item. A byte with which no item begins or goes on offends itself; so does one after a whole
 -- payload, unless it is a letter, which is an item. Nothing offends in whole items with which some payload begins, nor in a first digit
--- behind them.
+-- after them.
 use Rattle.std.specs.Prelude.{◌≡◌, ◌≢◌, ℕ, ◌⊎◌, List, [], ◌∷◌, ◌++◌, length, None, IsSome}
 use Rattle.std.specs.List.{concat}
 use Rattle.cc_base.specs.declared.refusal.Refusal.{Refusal}
@@ -38,7 +38,7 @@ pub record IsUnoffending (text open_text : List ℕ) : Type 0 where
   pub begins : BeginsPayload start
   pub form : BeginsForm text
 
--- these bytes behind others bring a checksum byte that isn't the low eight bits of the checksum word
+-- these bytes after others bring a checksum byte that isn't the low eight bits of the checksum word
 pub record BringWrongSum (before bytes : List ℕ) : Type 0 where
   pub payload : Payload
   pub checksum : ℕ
@@ -46,7 +46,7 @@ pub record BringWrongSum (before bytes : List ℕ) : Type 0 where
   pub spelled : before ++ bytes ≡ bytes_with payload checksum ++ more
   pub wrong : checksum ≢ checksum_byte payload
 
--- the reason where an item with these bytes offends behind these
+-- the reason where an item with these bytes offends after these
 abbrev pub IsItemWhy : List ℕ → List ℕ → Why → Type 0
 IsItemWhy before bytes reason =
     (BringWrongSum before bytes × (reason ≡ why.AncSum)) ⊎ ((BringWrongSum before bytes → ⊥) × (reason ≡ why.MccSyntax))
@@ -66,7 +66,7 @@ pub record ItemOffends (text : List ℕ) (refusal : Refusal) : Type 0 where
   pub place_is : refusal.place ≡ length before
   pub why_is : IsItemWhy (concat items) bytes refusal.why
 
--- a byte offends: it is no item, and no payload in form goes on with it
+-- a byte offends: it is no item, and no payload in form can continue with it
 pub record ByteOffends (text : List ℕ) (refusal : Refusal) : Type 0 where
   pub before : List ℕ
   pub open_text : List ℕ

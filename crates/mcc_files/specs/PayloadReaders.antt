@@ -22,7 +22,7 @@ abbrev pub StepsTo : Result Open Offence → PayloadReader → PayloadReader →
 StepsTo due old new (Ok _) = due ≡ Ok (open_of new)
 StepsTo due old new (Err offence) = (due ≡ Err offence) × (new ≡ old)
 
--- the text begins with a payload, and a reader stands behind it
+-- the text begins with a payload, and a reader follows it
 pub record IsBehindPayload (text rest : List ℕ) (reader : PayloadReader) : Type 0 where
   pub front : List ℕ
   pub payload : Payload

@@ -18,12 +18,12 @@ pub record Open : Type 0 where
 abbrev pub nothing_open : Open
 nothing_open = record { digit = None; bytes = [] }
 
--- the bytes are a whole packet's: behind the count stand more than it says, the user bytes and the checksum byte
+-- the bytes are a whole packet's: after the count stand more than it says, the user bytes and the checksum byte
 abbrev pub is_whole : List ℕ → Bool
 is_whole (did ∷ sdid ∷ count ∷ rest) = nat_lt count (length rest)
 is_whole _ = false
 
--- why a byte offends behind these: it is one too many, or, where sums are judged, it is a checksum byte with other bits than the low
+-- why a byte offends after these: it is one too many, or, where sums are judged, it is a checksum byte with other bits than the low
 -- eight of the checksum word, which are those of the sum of all bytes before; else only the form of payloads is judged
 abbrev pub why_of_byte : Bool → List ℕ → ℕ → Option Why
 why_of_byte judging (did ∷ sdid ∷ count ∷ rest) byte =
@@ -33,7 +33,7 @@ why_of_byte judging (did ∷ sdid ∷ count ∷ rest) byte =
     else Some why.AncSum
 why_of_byte judging _ byte = None
 
--- the bytes of an item behind these, one after another, or why one of them offends
+-- the bytes of an item after these, one after another, or why one of them offends
 abbrev pub joined_on : Option Why → Result (List ℕ) Why → Result (List ℕ) Why
 joined_on None rest = rest
 joined_on (Some reason) rest = Err reason
@@ -42,12 +42,12 @@ abbrev pub joined : Bool → List ℕ → List ℕ → Result (List ℕ) Why
 joined judging before [] = Ok before
 joined judging before (byte ∷ bytes) = joined_on (why_of_byte judging before byte) (joined judging (before ++ byte ∷ []) bytes)
 
--- an item ends, that begins so many bytes before its last one
+-- an item ends, that begins this many bytes before its last one
 abbrev pub item_ends : ℕ → Result (List ℕ) Why → Result Open Offence
 item_ends back (Ok bytes) = Ok (record { digit = None; bytes = bytes })
 item_ends back (Err reason) = Err (record { back = back; why = reason })
 
--- no item begins or goes on with a byte
+-- no item begins or can continue with a byte
 abbrev pub no_item : Result Open Offence
 no_item = Err (record { back = 0; why = why.MccSyntax })
 
@@ -67,7 +67,7 @@ abbrev pub stepped : Bool → Option ℕ → List ℕ → ℕ → Result Open Of
 stepped judging None bytes byte = item_begins judging bytes (letter_bytes byte) (hex_value byte)
 stepped judging (Some high) bytes byte = second_digit judging bytes high (hex_value byte)
 
--- a byte of the text more: behind a whole packet none goes on
+-- a byte of the text more: after a whole packet none goes on
 abbrev pub step : Bool → Open → ℕ → Result Open Offence
 step judging front byte = if is_whole front.bytes then no_item else stepped judging front.digit front.bytes byte
 
@@ -81,7 +81,7 @@ brought_by (Some high) letter None = []
 abbrev pub brought : Open → ℕ → List ℕ
 brought front byte = brought_by front.digit (letter_bytes byte) (hex_value byte)
 
--- the first of the bytes of an item behind these, down to one that offends
+-- the first of the bytes of an item after these, down to one that offends
 abbrev pub fits_on : Option Why → ℕ → List ℕ → List ℕ
 fits_on None byte rest = byte ∷ rest
 fits_on (Some reason) byte rest = []

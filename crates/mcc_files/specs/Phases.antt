@@ -28,7 +28,7 @@ abbrev pub rate_count : RateText → Option Counting
 rate_count (rate_text.Whole count) = Some count
 rate_count _ = None
 
--- behind the text of a count, which may go on
+-- after the text of a count, which may go on
 abbrev pub whole_moved : Counting → ℕ → Option RateText
 whole_moved counting.F30 byte = if byte == 68 then Some rate_text.ThirtyD else None
 whole_moved counting.F60 byte = if byte == 68 then Some rate_text.SixtyD else None
@@ -72,7 +72,7 @@ abbrev pub most_text : Phase → ℕ
 most_text phase.Time = 10
 most_text _ = 11
 
--- how many bytes of the rate's name stand in a name with one byte more, where so many stood before; 0 in another name
+-- how many bytes of the rate's name stand in a name with one byte more, where this many stood before; 0 in another name
 abbrev pub matched : ℕ → ℕ → ℕ
 matched before byte = if nat_lt 0 before && nat_lt before 14 && (byte == slice_index rate_name before) then before + 1 else 0
 

@@ -61,19 +61,19 @@ TakesByte old new byte (Err offence) = (placed : TimedPackets) → take_byte (st
 abbrev pub HasRead : List ℕ → TimedPackets → MccReader → Type 0
 HasRead before placed reader = run at_first before ≡ Ok (state_of reader placed)
 
--- the first offence behind bytes, whatever follows
+-- the first offence after bytes, whatever follows
 abbrev pub OffendsBehind : List ℕ → ℕ → Offence → Type 0
 OffendsBehind before byte offence =
     (rest : List ℕ) → IsFirstOffence (before ++ byte ∷ rest) (record { place = length before - offence.back; why = offence.why })
 
--- a byte more was taken behind bytes: no packet's line has ended with it, or the line of this packet; or it offends
+-- a byte more was taken after bytes: no packet's line has ended with it, or the line of this packet; or it offends
 abbrev pub TakesOn : List ℕ → TimedPackets → ℕ → MccReader → Result Bool Offence → Type 0
 TakesOn before placed byte reader (Ok false) = HasRead (before ++ byte ∷ []) placed reader
 TakesOn before placed byte reader (Ok true) =
     HasRead (before ++ byte ∷ []) (placed ++ packet_in reader ∷ []) reader × HasWholeBytes reader
 TakesOn before placed byte reader (Err offence) = OffendsBehind before byte offence
 
--- behind a reader stands another, which took a packet's line more, that of so many bytes with which these begin
+-- after a reader stands another, which took a packet's line more, that of this many bytes with which these begin
 pub record IsBehindLine (old : MccReader) (bytes : List ℕ) (count : ℕ) (new : MccReader) : Type 0 where
   pub front : List ℕ
   pub within : count ≤ length bytes

@@ -84,7 +84,7 @@ ends_in _ bytes = None
 abbrev pub ends : State → Option Bool
 ends s = ends_in s.phase s.payload.bytes
 
--- behind a CR it has to end
+-- after a CR it has to end
 abbrev pub ends_at_lf : Phase → Option Bool → Option Bool
 ends_at_lf phase.FirstEnd may = Some false
 ends_at_lf (phase.End packet) may = Some packet
@@ -116,7 +116,7 @@ first_read s at byte =
     if (at == 28) && (byte == 50) then Ok (record s { phase = phase.First 29; two = true })
     else taken s (byte == slice_index (format_text one) at) (in_phase s (behind_first at))
 
--- a line begins: blank, a comment, an attribute before the first packet, or a time code behind the rate
+-- a line begins: blank, a comment, an attribute before the first packet, or a time code after the rate
 abbrev pub begun : State → ℕ → Result State Offence
 begun s byte =
     if is_blank byte then Ok (in_phase s phase.Blank)
@@ -135,7 +135,7 @@ abbrev pub name_read : State → ℕ → ℕ → Result State Offence
 name_read s before byte =
     if byte == 61 then named s before else taken s (is_letter byte || (byte == 32)) (in_phase s (phase.Name (matched before byte)))
 
--- within the text of a count, or behind it
+-- within the text of a count, or after it
 abbrev pub rate_read : State → RateText → Option RateText → ℕ → Result State Offence
 rate_read s text (Some next) byte = Ok (record s { phase = phase.Rate next; count = rate_count next })
 rate_read s text None byte = taken s (is_some (rate_count text) && (byte == 32)) (in_phase s phase.RateSpaces)
@@ -166,7 +166,7 @@ time_read s text =
     if length text == 11 then timed s text (judged_frame s.count s.last (time_of_text text))
     else taken s (begins_time text) (record s { phase = phase.Time; text = text })
 
--- a payload begins behind a TAB
+-- a payload begins after a TAB
 abbrev pub awaits_payload : Phase → Bool
 awaits_payload phase.Timed = true
 awaits_payload phase.Field = true

@@ -22,7 +22,7 @@ abbrev pub written_attributes : List ℕ
 written_attributes =
     codes "\n\nUUID=00000000-0000-0000-0000-000000000000\nCreation Program=ccsuite\nCreation Date=Thursday, January 1, 1970\nCreation Time=00:00:00\n"
 
--- the head of a file: up to the empty line behind the time code rate
+-- the head of a file: up to the empty line after the time code rate
 abbrev pub written_head : Counting → List ℕ
 written_head count = format_text (written_version count) ++ written_attributes ++ codes "Time Code Rate=" ++ counting_text count ++ codes "\n\n"
 

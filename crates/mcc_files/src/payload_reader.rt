@@ -13,7 +13,7 @@ use hex_digits::hex_value;
 /// The most bytes of a packet in a payload: DID, SDID, count, 255 user bytes and the checksum byte.
 pub(crate) const ROOM: usize = 259;
 
-/// What offends: the byte so many bytes before the last one, and the reason.
+/// What offends: the byte this many bytes before the last one, and the reason.
 #[derive(Clone, Copy, PartialEq, Eq)]
 pub struct Offence {
     /// How many bytes before the last one: 1 where an item of two digits offends, else 0.
@@ -22,7 +22,7 @@ pub struct Offence {
     pub why: Why,
 }
 
-/// No item begins or goes on with the byte.
+/// No item begins or can continue with the byte.
 const NO_ITEM: Offence = Offence {
     back: 0,
     why: Why::MccSyntax,
@@ -209,7 +209,7 @@ impl PayloadReader {
         fit
     }
 
-    /// The item that ends with a byte, if one does, and how many of its bytes a payload goes on with; else no bytes.
+    /// The item that ends with a byte, if one does, and how many of its bytes a payload can continue with; else no bytes.
     pub fn item(&self, byte: u8) -> Item
         ensures bytes { result.bytes.items ≡ item_bytes (open_of self.now) byte }
         ensures back { result.back ≡ item_back (open_of self.now).digit }
@@ -289,7 +289,7 @@ impl PayloadReader {
 
     /// Takes a byte of the text. Where it offends nothing changes.
     ///
-    /// MccSyntax comes exactly where no item begins or goes on with the byte, where a whole packet stands before it, and where a letter
+    /// MccSyntax comes exactly where no item begins or can continue with the byte, where a whole packet stands before it, and where a letter
     /// brings a byte too many; AncSum where the item brings a checksum byte with other bits than the low eight of the checksum word.
     /// Where an item of two digits offends, the offence is at its first digit.
     pub fn take(&mut self, byte: u8) -> Result<(), Offence>

@@ -74,7 +74,7 @@ pub(crate) fn write_bytes<const ROOM: usize>(bytes: &[u8], out: &mut ArrayVec<u8
     }
 }
 
-/// The low one of a word's two bytes. It is taken from the word, since words one behind another are read in one load, and every second
+/// The low one of a word's two bytes. It is taken from the word, since words one after another are read in one load, and every second
 /// byte in a load each.
 fn low_byte(word: [u8; 2]) -> u8
     ensures { result ≡ low_of word }

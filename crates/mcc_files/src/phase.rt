@@ -26,12 +26,12 @@ pub enum RateText {
     ThirtyD,
     /// `60D`.
     SixtyD,
-    /// The whole text of this count; `30` and `60` may go on with `DF`.
+    /// The whole text of this count; `30` and `60` may continue with `DF`.
     Whole(Counting),
 }
 
 impl RateText {
-    /// What a byte leads to; None exactly where the text of no count goes on with it.
+    /// What a byte leads to; None exactly where the text of no count can continue with it.
     pub fn moved(self, byte: u8) -> Option<RateText>
         ensures { result ≡ rate_moved self byte }
     {
@@ -67,43 +67,43 @@ impl RateText {
 /// Where the bytes read so far have ended within the form of an MCC file.
 #[derive(Clone, Copy)]
 pub enum Phase {
-    /// Behind so many bytes of the first line's text, below 31.
+    /// After this many bytes of the first line's text, below 31.
     First(u8),
-    /// Behind the first line's text, and perhaps spaces.
+    /// After the first line's text, and perhaps spaces.
     FirstSpaces,
-    /// Behind the CR of the first line's end.
+    /// After the CR of the first line's end.
     FirstEnd,
     /// At the start of a line.
     Start,
-    /// Behind spaces and TABs at the start of a line.
+    /// After spaces and TABs at the start of a line.
     Blank,
-    /// Behind one slash.
+    /// After one slash.
     Slash,
     /// In a comment.
     Comment,
-    /// In the name of an attribute: of the rate's name so many bytes, from 1 to 14; or 0, another name.
+    /// In the name of an attribute: of the rate's name this many bytes, from 1 to 14; or 0, another name.
     Name(u8),
     /// In the value of an attribute that isn't the rate.
     Value,
     /// In the text of a count.
     Rate(RateText),
-    /// Behind spaces that follow the text of a count.
+    /// After spaces that follow the text of a count.
     RateSpaces,
     /// In a time code's text.
     Time,
-    /// Right behind a time code's text.
+    /// Right after a time code's text.
     Timed,
-    /// Behind the point that follows it.
+    /// After the point that follows it.
     Dot,
-    /// Behind the digit that follows the point.
+    /// After the digit that follows the point.
     Field,
-    /// Behind a comma and so many digits, at most 5.
+    /// After a comma and this many digits, at most 5.
     Digits(u8),
     /// In a payload.
     Payload,
-    /// Behind spaces that follow a payload.
+    /// After spaces that follow a payload.
     Behind,
-    /// Behind the CR of a line's end; whether the line is a packet's.
+    /// After the CR of a line's end; whether the line is a packet's.
     End(bool),
 }
 
@@ -121,7 +121,7 @@ pub fn is_letter(byte: u8) -> bool
     byte.is_ascii_alphabetic()
 }
 
-/// How many bytes of the rate's name stand in a name with one byte more, where so many stood before; 0 in another name.
+/// How many bytes of the rate's name stand in a name with one byte more, where this many stood before; 0 in another name.
 pub fn matched(before: u8, byte: u8) -> u8
     ensures matched { result ≡ matched before byte }
     ensures within { result ≤ 14 }

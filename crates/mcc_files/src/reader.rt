@@ -125,7 +125,7 @@ impl MccReader {
         }
     }
 
-    /// Reads the packet's line with which bytes begin, behind what `before` has read, in place of all that was read here: how many bytes the
+    /// Reads the packet's line with which bytes begin, after what `before` has read, in place of all that was read here: how many bytes the
     /// line has. It has a time code's text, TAB, a payload, and LF or CR LF, of which nothing offends. None where no line begins with the next
     /// byte, or the bytes begin with no such line: then a reader that takes them one by one tells what stands there, and this one is of no
     /// use until it reads such a line.
@@ -152,7 +152,7 @@ impl MccReader {
         Some(bytes.len() - after.len())
     }
 
-    /// Whether a line begins with the next byte, behind the first line.
+    /// Whether a line begins with the next byte, after the first line.
     pub fn is_at_start(&self) -> bool
         ensures { result ≡ is_at_start self.now.phase }
     {
@@ -251,7 +251,7 @@ impl MccReader {
         }
     }
 
-    // Takes a byte of an attribute's name, or the sign behind it.
+    // Takes a byte of an attribute's name, or the sign after it.
     fn name_byte(&mut self, before: u8, byte: u8) -> Result<(), Offence>
         requires { before ≤ 14 }
         ensures { StepsTo (λ s. name_read s before byte) self.old self.new result }
@@ -276,7 +276,7 @@ impl MccReader {
         Ok(())
     }
 
-    // Takes a byte of the text of a count, or a space behind it.
+    // Takes a byte of the text of a count, or a space after it.
     fn rate_byte(&mut self, text: RateText, byte: u8) -> Result<(), Offence>
         ensures { StepsTo (λ s. rate_read s text
             (rate_moved text byte) byte) self.old self.new result }
@@ -312,7 +312,7 @@ impl MccReader {
         Ok(())
     }
 
-    // Takes a byte of a payload, or a space behind it.
+    // Takes a byte of a payload, or a space after it.
     fn payload_byte(&mut self, byte: u8) -> Result<(), Offence>
         ensures { StepsTo (λ s. payload_read s byte) self.old self.new result }
     {
@@ -333,7 +333,7 @@ impl MccReader {
         }
     }
 
-    // Takes a digit behind a comma.
+    // Takes a digit after a comma.
     fn digit_byte(&mut self, count: u8, byte: u8) -> Result<(), Offence>
         requires { count ≤ 5 }
         ensures { StepsTo (λ s. taken s (nat_lt count 5 && is_digit byte)
@@ -402,7 +402,7 @@ impl MccReader {
         Ok(packet)
     }
 
-    // Takes a CR, behind which a line has to end.
+    // Takes a CR, after which a line has to end.
     fn take_cr(&mut self) -> Result<bool, Offence>
         ensures { TakesByte self.old self.new 13 result }
     {
@@ -430,12 +430,12 @@ impl MccReader {
         }
     }
 
-    /// Takes a byte of a file, behind those that it took before, of which none offended: whether the line of a packet has ended
-    /// with it, which is then the packet of `frame` and `bytes`. The file may come in any pieces. Behind an offence a reader is of no use.
+    /// Takes a byte of a file, after those that it took before, of which none offended: whether the line of a packet has ended
+    /// with it, which is then the packet of `frame` and `bytes`. The file may come in any pieces. After an offence a reader is of no use.
     ///
     /// Err comes exactly where the byte is the first that offends, or ends the first time code, item or name of a time code rate
     /// that does, with how many bytes before this byte the offence is: Header at a byte that no first line has, MccSyntax at one that
-    /// no line goes on with, at a letter of a payload that brings a byte too many, and at the first byte of a line with a second
+    /// no line can continue with, at a letter of a payload that brings a byte too many, and at the first byte of a line with a second
     /// time code rate; NoSuchTime and Backwards at the first byte of a time code; AncSum at the first byte of a checksum byte's item.
     pub fn take(&mut self, byte: u8) -> Result<bool, Offence>
         ensures { (before : List ℕ) (placed : TimedPackets) → HasRead before placed self.old
@@ -444,7 +444,7 @@ impl MccReader {
         self.step(byte)
     }
 
-    /// The item of the open payload that ends with a byte, if one does, and how many of its bytes a payload goes on with; else no bytes.
+    /// The item of the open payload that ends with a byte, if one does, and how many of its bytes a payload can continue with; else no bytes.
     pub fn item(&self, byte: u8) -> Item
         ensures bytes { result.bytes.items ≡ item_in self.now.phase (open_of self.now.payload) byte }
         ensures back { result.back ≡ back_in self.now.phase (open_of self.now.payload) }

@@ -64,7 +64,7 @@ has_missing (Some before) frame =
     let has = has_without before.rate (first_number before) (missing (Some before.frame) frame) in
     record { frames = has.frames; file = has.file; without = has.are; apart = λ payload own more rest. (has.number, rest) }
 
--- the frames of packets behind others
+-- the frames of packets after others
 record HasParts (before : Option ℕ) (placed : TimedPackets) (words : List ℕ) : Type 0 where
   parts : List CaptionPart
   are : All IsPart parts

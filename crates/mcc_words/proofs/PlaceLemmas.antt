@@ -16,7 +16,7 @@ use Rattle.mcc_words.proofs.FileLemmas.{GoForward, file_forward}
 use Rattle.mcc_words.proofs.PartLemmas.{packets_stand_apart}
 use Rattle.mcc_words.proofs.UnchangedLemmas.{without_change_nothing}
 
--- the frames of the day of packets of captions: none is before the one before it; and each is behind it, where they are their own
+-- the frames of the day of packets of captions: none is before the one before it; and each is after it, where they are their own
 abbrev GoOn : ℕ → TimedPackets → Type 0
 GoOn last [] = ⊤
 GoOn last (one ∷ more) = (last ≤ one.0) × GoOn one.0 more
@@ -45,7 +45,7 @@ rise_of first (next ∷ more) on own =
       rise_of next more on.1 (λ before after at one other split. own (first ∷ before) after at one other (ap (λ (l : TimedPackets). first ∷ l) split)),
     )
 
--- places in a part and behind it
+-- places in a part and after it
 in_front : (xs ys : List Frame) (place : ℕ) → place < length xs → slice_get (xs ++ ys) place ≡ slice_get xs place
 in_front [] ys place below = absurd (omega arith)
 in_front (x ∷ xs) ys zero below = refl
@@ -108,7 +108,7 @@ own_here part rest place at payload is same at_is = record {
   is = subst (λ (p : Payload). IsOfPayload p part.own) same is.own;
 }
 
--- the places behind a packet of captions at a frame of the day
+-- the places after a packet of captions at a frame of the day
 record HasOwnPlace (former at : ℕ) (frames : List Frame) (payload : Payload) : Type 0 where
   behind : former < at
   stands : HasFrameAt frames (at - (former + 1)) (IsOfPayload payload)

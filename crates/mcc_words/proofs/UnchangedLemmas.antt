@@ -1,4 +1,4 @@
--- What a receiver shows behind a frame without captions.
+-- What a receiver shows after a frame without captions.
 use Rattle.std.proofs.Common.{◌≡◌, ℕ, ◌+◌, ◌==◌, ◌||◌, Bool, true, false, List, [], ◌∷◌, ◌++◌, drop, length, map, Option, Some, None, refl, ap, sym, ◌∙◌, append-nil, append_assoc, arith}
 use Rattle.std.specs.Prelude.{if◌then◌else◌}
 use Rattle.std.proofs.lemmas.Bool.{eqb-true}
@@ -27,7 +27,7 @@ use Rattle.mcc_words.specs.Standing.{IsWithoutCaptions}
 use Rattle.mcc_words.specs.Unchanged.{DelayEndsBehind, FramesWithoutChangeNothing, FramesWithoutTellTime}
 use Rattle.mcc_words.proofs.WithoutLemmas.{without_channel, without_idle}
 
--- triplets none of which is of channel packets say nothing, and what stands behind them says what it says without them
+-- triplets none of which is of channel packets say nothing, and what follows them says what it says without them
 channel_append : (xs ys : List Triplet) → channel_triplets (xs ++ ys) ≡ channel_triplets xs ++ channel_triplets ys
 channel_append xs ys = filter-append (λ (triplet : Triplet). starts triplet || continues_packet triplet) xs ys
 

@@ -6,12 +6,12 @@ use Rattle.mcc_files.specs.MccFiles.{TimedPackets}
 use Rattle.mcc_files.specs.PayloadWords.{payload_words}
 use Rattle.mcc_words.specs.MccWords.{carries_captions}
 
--- the frame is that behind the packet of captions before, at the latest
+-- the frame is that after the packet of captions before, at the latest
 abbrev pub IsClose : Option ℕ → ℕ → Type 0
 IsClose None frame = ⊤
 IsClose (Some last) frame = frame ≤ last + 1
 
--- the packets of captions are close, behind one at this frame
+-- the packets of captions are close, after one at this frame
 abbrev pub AreClose : Option ℕ → TimedPackets → Type 0
 AreClose last [] = ⊤
 AreClose last (placed ∷ more) =

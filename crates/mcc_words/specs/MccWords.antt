@@ -1,5 +1,5 @@
 -- Believed: the program's answer stands on these definitions.
--- The words of an MCC file's packets at their frames: the packets in order, and where a packet of captions stands more than one frame behind
+-- The words of an MCC file's packets at their frames: the packets in order, and where a packet of captions stands more than one frame after
 -- the packet of captions before it, frames without captions directly before it, one for each frame that is missing, numbered on from the
 -- packet put before them. Counters are raised by the frames that were put so far, unless a packet's counter counts them already.
 use Rattle.std.specs.Prelude.{◌≡◌, ℕ, ◌+◌, ◌-◌, ◌%◌, ◌==◌, ◌&&◌, ◌⊎◌, Bool, true, false, if◌then◌else◌, List, [], ◌∷◌, ◌++◌, Option, Some, None}
@@ -55,7 +55,7 @@ ArePacketWords before placed bytes after =
     ((carries_captions placed.1 ≡ true) × AreCaptionWords before placed.0 placed.1.user bytes after)
     ⊎ ((carries_captions placed.1 ≡ false) × (bytes ≡ payload_words placed.1) × (after ≡ before))
 
--- the words of packets, behind others
+-- the words of packets, after others
 abbrev pub AreWordsBehind : Option Before → TimedPackets → List ℕ → Option Before → Type 0
 AreWordsBehind before [] bytes after = (bytes ≡ []) × (after ≡ before)
 AreWordsBehind before (placed ∷ more) bytes after =

@@ -6,7 +6,7 @@ use Rattle.cc_base.specs.declared.rate.Rate.{Rate}
 use Rattle.frame_carrier.specs.End.{silent_frame}
 use Rattle.frame_carrier.specs.Carrying.{frame_bytes}
 
--- the words of so many of them, from a number on, modulo 65536
+-- the words of this many of them, from a number on, modulo 65536
 abbrev pub words_without : Rate → ℕ → ℕ → List ℕ
 words_without rate number zero = []
 words_without rate number (suc many) = frame_bytes rate number (silent_frame rate number) [] ++ words_without rate ((number + 1) % 65536) many

@@ -46,13 +46,13 @@ pub record IsPart (part : CaptionPart) : Type 0 where
   pub without : All IsWithoutCaptions part.missing
   pub own : IsOfPayload part.payload part.own
 
--- before each packet so many frames are missing as lie between its frame of the day and that of the packet before it; none before the first
+-- before each packet as many frames are missing as lie between its frame of the day and that of the packet before it; none before the first
 abbrev pub AreSpaced : Option ℕ → List CaptionPart → Type 0
 AreSpaced before [] = ⊤
 AreSpaced None (part ∷ more) = (part.missing ≡ []) × AreSpaced (Some part.at) more
 AreSpaced (Some before) (part ∷ more) = (length part.missing ≡ part.at - (before + 1)) × AreSpaced (Some part.at) more
 
--- the frames are those of the packets of captions in their order, each behind the frames that are missing before it
+-- the frames are those of the packets of captions in their order, each after the frames that are missing before it
 pub record StandApart (placed : TimedPackets) (frames : List Frame) : Type 0 where
   pub parts : List CaptionPart
   pub are : All IsPart parts

@@ -3,8 +3,8 @@
 ghost use Rattle.mcc_words.specs.Standing.{PacketsStandApart, PacketsStandAtTheirFrames, WordsHaveFrames};
 ghost use Rattle.mcc_words.specs.Unchanged.{FramesWithoutChangeNothing, FramesWithoutTellTime, MissingFramesChangeNothing};
 
-/// The words of an MCC file are a words file. Its frames are those of the packets of captions in their order, each behind the frames
-/// without captions that are missing before it: so many as lie between its frame of the day and that of the packet of captions before it,
+/// The words of an MCC file are a words file. Its frames are those of the packets of captions in their order, each after the frames
+/// without captions that are missing before it: as many as lie between its frame of the day and that of the packet of captions before it,
 /// and none where both are at one frame.
 pub fn packets_stand_apart()
     ensures file { WordsHaveFrames }
@@ -17,8 +17,8 @@ pub fn packets_stand_at_their_frames()
     ensures { PacketsStandAtTheirFrames }
 {}
 
-/// A frame without captions behind whatever frames shows on each channel of line 21 what was shown before it, and in each service too, but
-/// where a delay of the service ends in it. It tells each service that time passes and nothing else, and the frames behind it tell the
+/// A frame without captions after whatever frames shows on each channel of line 21 what was shown before it, and in each service too, but
+/// where a delay of the service ends in it. It tells each service that time passes and nothing else, and the frames after it tell the
 /// services what they tell without it.
 pub fn frames_without_change_nothing()
     ensures shown { FramesWithoutChangeNothing }

@@ -23,7 +23,7 @@ pub time_code-kept : (section : List ℕ) → is_time_code_section section ≡ t
 time_code-kept [] is = refl
 time_code-kept (id ∷ rest) is = grind arith
 
--- the sections that are kept are those before the place and others behind it
+-- the sections that are kept are those before the place and others after it
 pub record AreSplit (cut before : List (List ℕ)) : Type 0 where
   pub behind : List (List ℕ)
   pub kept : filter is_kept cut ≡ before ++ behind
@@ -59,7 +59,7 @@ pub put_among-are : (before behind : List (List ℕ)) (section : List ℕ) → I
 put_among-are [] behind section is are = (is, are)
 put_among-are (first ∷ before) behind section is are = (are.0, put_among-are before behind section is are.1)
 
--- the packet that is made of what is kept, in front of and behind a place
+-- the packet that is made of what is kept, in front of and after a place
 pub record IsMade (triplets : List Triplet) (old : Frame) (kept : List ℕ) (place : ℕ) : Type 0 where
   pub new : Frame
   pub inserted : IsInserted triplets old new
@@ -112,14 +112,14 @@ made triplets old before kept place section are is_place long kept_is =
       within = omega (arith, size, long);
     }
 
--- the sections that are put one behind another
+-- the sections that are put one after another
 pub put_behind : (kept slice new front section back a s b d : List ℕ) (place : ℕ) → slice ≡ kept → front ≡ take place slice → back ≡ drop place slice
     → new ≡ [] → a ≡ new ++ front → s ≡ a ++ section → b ≡ s ++ back → d ≡ b → d ≡ (take place kept ++ section) ++ drop place kept
 put_behind kept slice new front section back a s b d place slice_is front_is back_is new_is a_is s_is b_is d_is =
     let a_front : a ≡ front = a_is ∙ ap (λ n. n ++ front) new_is in
     cc
 
--- so many bytes stand before the last piece
+-- this many bytes stand before the last piece
 pub room_behind : (kept slice new front section back a s : List ℕ) (place n : ℕ) → slice ≡ kept → front ≡ take place slice → back ≡ drop place slice
     → new ≡ [] → a ≡ new ++ front → s ≡ a ++ section → place ≤ length kept → length kept + length section ≤ n → length s + length back ≤ n
 room_behind kept slice new front section back a s place n slice_is front_is back_is new_is a_is s_is within fits =

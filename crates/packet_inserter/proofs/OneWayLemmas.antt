@@ -59,7 +59,7 @@ one_place cut before other (inr (inr this)) (inr (inl that)) =
     absurd (not_all is_time_code_section other that.behind that.first that.is_first (subst (All (λ s. is_time_code_section s ≡ true)) that.cut this.time_codes))
 one_place cut before other (inr (inr this)) (inr (inr that)) = this.all ∙ sym that.all
 
--- behind one front stands one list
+-- after one front stands one list
 same_behind : (front behind other : List (List ℕ)) → front ++ behind ≡ front ++ other → behind ≡ other
 same_behind [] behind other same = same
 same_behind (section ∷ front) behind other same = same_behind front behind other (cc)

@@ -1,4 +1,4 @@
--- A list of sections is walked section by section: the sections behind are those that are left.
+-- A list of sections is walked section by section: the sections after are those that are left.
 use Rattle.std.proofs.Common.{◌≡◌, ℕ, ◌+◌, ◌++◌, inl, inr, Bool, true, false, List, [], ◌∷◌, length, filter, All, refl, sym, ap, subst, ◌∙◌, append_assoc, append-nil, length-append, if◌then◌else◌, arith}
 use Rattle.std.proofs.lemmas.List.Elements.{All-append, All-cons, All-nil, filter-append}
 use Rattle.std.proofs.lemmas.List.Folds.{concat-append}
@@ -73,7 +73,7 @@ none_left cut rest walk none = by_left walk.left walk.are walk.rest_is
     by_left [] are same = refl
     by_left (first ∷ others) are same = absurd (none first (concat others) are.0 (sym same))
 
--- all sections walked pass a test, and so many are their bytes
+-- all sections walked pass a test, and this many are their bytes
 pub record HavePassed (test : List ℕ → Bool) (cut : List (List ℕ)) (rest : List ℕ) (place : ℕ) : Type 0 where
   pub walk : IsWalked cut rest
   pub passed : All (λ section. test section ≡ true) walk.done
@@ -87,14 +87,14 @@ begin_passed test cut bytes are joined = record {
   long = refl;
 }
 
--- one more behind a list
+-- one more after a list
 concat-one : (done : List (List ℕ)) (section : List ℕ) → concat (done ++ section ∷ []) ≡ concat done ++ section
 concat-one done section = concat-append done (section ∷ []) ∙ ap (λ s. concat done ++ s) (append-nil section)
 
 length-one : (done : List (List ℕ)) (section : List ℕ) → length (concat (done ++ section ∷ [])) ≡ length (concat done) + length section
 length-one done section = ap length (concat-one done section) ∙ length-append (concat done) section
 
--- a walk goes on behind the next section
+-- a walk goes on after the next section
 walk_on : (cut : List (List ℕ)) (rest section behind : List ℕ) (walk : IsWalked cut rest) → IsNext cut walk.done walk.left section behind → IsWalked cut behind
 walk_on cut rest section behind walk next = record {
   done = walk.done ++ section ∷ [];
@@ -148,7 +148,7 @@ pub all_passed : (test : List ℕ → Bool) (cut : List (List ℕ)) (rest : List
 all_passed test cut rest place have none =
     subst (All (λ section. test section ≡ true)) (sym (all_walked cut rest have.walk none)) have.passed
 
--- behind the time codes stands another section, or none
+-- after the time codes stands another section, or none
 pub behind_time_codes : (cut : List (List ℕ)) (rest section behind : List ℕ) (place : ℕ) → HavePassed is_time_code_section cut rest place
     → IsSection section → rest ≡ section ++ behind → is_time_code_section section ≡ false → StandsBehindTimeCodes cut place
 behind_time_codes cut rest section behind place have is spelled other =

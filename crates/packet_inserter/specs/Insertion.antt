@@ -44,7 +44,7 @@ pub record AreTimeCodes (sections before : List (List ℕ)) : Type 0 where
   pub time_codes : All (λ section. is_time_code_section section ≡ true) sections
   pub all : before ≡ sections
 
--- the new section's place is behind these sections
+-- the new section's place is after these sections
 abbrev pub IsPlace : List (List ℕ) → List (List ℕ) → Type 0
 IsPlace sections before = StandBeforeCaptions sections before ⊎ StandBeforeOthers sections before ⊎ AreTimeCodes sections before
 
@@ -64,6 +64,6 @@ pub record IsInserted (triplets : List Triplet) (old new : Frame) : Type 0 where
   pub counter : new.counter ≡ old.counter
   pub sections : IsPutAmong (cc_data_section triplets) old.sections new.sections
 
--- the number of a packet's bytes: its sections, seven before them and four behind them
+-- the number of a packet's bytes: its sections, seven before them and four after them
 abbrev pub packet_length : Frame → ℕ
 packet_length packet = length (concat packet.sections) + 11

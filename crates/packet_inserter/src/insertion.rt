@@ -16,7 +16,7 @@ use cdp_packets::{WholePacket, cc_section, write_cdp};
 /// The flags of a packet that carries cc_data, of an active caption service: bits 6 and 1 (SMPTE ST 334-2).
 const CAPTION_FLAGS: u8 = 0x42;
 
-/// The most bytes of the sections of a packet: 255 but for the seven before them and the four behind them.
+/// The most bytes of the sections of a packet: 255 but for the seven before them and the four after them.
 const ROOM: usize = 244;
 
 /// Writes a distribution packet with these triplets, at most 31 of kinds below 4, in place of those that it has, into an empty

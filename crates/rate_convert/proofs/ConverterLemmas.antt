@@ -1,4 +1,4 @@
--- What a converter is behind bytes that bring no frame, or one more.
+-- What a converter is after bytes that bring no frame, or one more.
 use Rattle.std.proofs.Common.{◌≡◌, ℕ, ◌+◌, Option, None, Some, Err, Ok, take, List, [], ◌∷◌, ◌++◌, refl, subst, sym, length, length-append, arith}
 use Rattle.std.specs.Prelude.{MatchOption, Result}
 use Rattle.cc_base.specs.declared.refusal.Refusal.{Refusal}

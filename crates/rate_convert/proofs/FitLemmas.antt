@@ -88,7 +88,7 @@ fit_none earlier frame (misfit.Two seen) fit holds = let few = fit.convertible.f
 fit_none earlier frame (misfit.Many seen) fit holds = let most = fit.convertible.most in let more = holds.0 in let is = holds.1 in omega arith
 fit_none earlier frame (misfit.Changed first) fit holds = not_changed (earlier ++ frame ∷ []) first fit.keeps holds.holds
 
--- nothing is seen behind no frame, and so nothing changes
+-- nothing is seen after no frame, and so nothing changes
 pub nothing_kept : KeepsGrids []
 nothing_kept = record { channels = λ chan. refl; services = λ service is id small. refl }
 

@@ -39,7 +39,7 @@ behind_same b c x y before same =
     ap (λ (l : List BlockPart). drop (length l) (said_in (b ++ x))) (said_by b c before)
     ∙ ap (λ (l : List BlockPart). drop (length (said_in c)) l) (said_by (b ++ x) (c ++ y) (channel_same b c x y before same))
 
--- what two say, one behind the other
+-- what two say, one after the other
 behind_two : (b x y : List Triplet) → said_behind b (x ++ y) ≡ said_behind b x ++ said_behind (b ++ x) y
 behind_two b x y =
     append_cancel_left (said_in b) (said_behind b (x ++ y)) (said_behind b x ++ said_behind (b ++ x) y)

@@ -32,7 +32,7 @@ AreEnds None (Some f) = ⊥
 AreEnds (Some e) None = ⊥
 AreEnds (Some e) (Some f) = (f ≡ 2 * e) ⊎ (f + 1 ≡ 2 * e)
 
--- a delay ends behind frame n
+-- a delay ends after frame n
 abbrev EndsBehind : ℕ → Option ℕ → Type 0
 EndsBehind n None = ⊤
 EndsBehind n (Some e) = n < e
@@ -238,7 +238,7 @@ all_open (first ∷ rest) clock core o =
     by_until None more = more
     by_until (Some e) more = refl
 
--- one more that is held acts as if it arrived behind the others
+-- one more that is held acts as if it arrived after the others
 module _ (n : ℕ) (c d : Clock) (k : Option Command) (clocks : AreClocks n c d) (good : IsGood k) (clock : Clock) where
   abbrev arrives : CoreState → CoreState
   arrives core = arrived_in core.until k clock core
@@ -485,7 +485,7 @@ first_clock t = record { ticks = t.clock.ticks + 1; rate = F5994 }
 abbrev second_clock : Served → Clock
 second_clock t = record { ticks = t.clock.ticks + 1 + 1; rate = F5994 }
 
--- both services behind a frame
+-- both services after a frame
 abbrev slow_behind : Served → Halved → Served
 slow_behind s frame = record {
   clock = slow_clock s;
@@ -514,7 +514,7 @@ fast_step t frame rest =
     ∙ after_append (record { clock = second_clock t; core = after_tick (second_clock t) (half_behind t frame) }) (map Byte frame.two) rest
     ∙ ap (λ (x : Served). served_after x rest) (after_bytes (second_clock t) (after_tick (second_clock t) (half_behind t frame)) frame.two)
 
--- behind a frame both are alike
+-- after a frame both are alike
 module _ (n : ℕ) (s t : Served) (frame : Halved) (at : s.clock.ticks ≡ n) (too : t.clock.ticks ≡ 2 * n) (alike : AreAlike n s.core t.core)
     (good : GoodBytes (slow_clock s) (after_tick (slow_clock s) s.core) (frame.one ++ frame.two)) where
   parts : GoodBytes (slow_clock s) (after_tick (slow_clock s) s.core) frame.one

@@ -18,7 +18,7 @@ use Rattle.words_files.proofs.CarriedWordsLemmas.{length-carried_triplets, same_
 pub half_size : (number : ℕ) (triplets : List Triplet) → length triplets ≡ 10 → length (carried_words (triplets_packet F5994 number triplets)) ≡ 100
 half_size number triplets ten = let all = length-carried_triplets F5994 number triplets in omega (arith, all, ten)
 
--- fillers behind some
+-- fillers after some
 pub drop_fillers : (n k : ℕ) → drop n (replicate k filler) ≡ replicate (k - n) filler
 drop_fillers zero k = let e : k ≡ k - 0 = omega arith in ap (λ m. replicate m filler) e
 drop_fillers (suc n) zero = let e : 0 ≡ 0 - suc n = omega arith in ap (λ m. replicate m filler) e
@@ -77,7 +77,7 @@ ten_are field channel copied behind first one same rest =
     ∙ ap (λ (l : List Triplet). get_or field 0 filler ∷ (l ++ behind)) same
     ∙ ap (λ (l : List Triplet). get_or field 0 filler ∷ (channel ++ l)) (rest ∙ drop_fillers (length channel) 9)
 
--- the words of one packet behind those of another
+-- the words of one packet after those of another
 pub words_are : (counter next frame : ℕ) (first second : List Triplet) (none one two : List ℕ) → counter ≡ (2 * frame) % 65536 → next ≡ (2 * frame + 1) % 65536
     → none ≡ [] → one ≡ none ++ carried_words (triplets_packet F5994 counter first) → two ≡ one ++ carried_words (triplets_packet F5994 next second)
     → two ≡ carried_words (triplets_packet F5994 (2 * frame) first) ++ carried_words (triplets_packet F5994 (2 * frame + 1) second)

@@ -1,4 +1,4 @@
--- What a receiver shows behind frames that are cut in halves.
+-- What a receiver shows after frames that are cut in halves.
 use Rattle.std.proofs.Common.{◌≡◌, ℕ, ◌==◌, Bool, true, false, List, [], ◌∷◌, ◌++◌, refl, sym, ap, ◌∙◌, subst}
 use Rattle.std.specs.Prelude.{if◌then◌else◌, reverse}
 use Rattle.cc_base.specs.declared.rate.Rate.TheVariants.{F2997, F5994}

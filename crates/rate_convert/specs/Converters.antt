@@ -1,5 +1,5 @@
 -- Between crates: the program's answer stands on none of these definitions.
--- What a converter is behind the bytes that it was fed.
+-- What a converter is after the bytes that it was fed.
 use Rattle.std.specs.Prelude.{ℕ, ◌++◌, List, take, Option, Some, None, Result, Ok, Err}
 use Rattle.cc_base.specs.declared.refusal.Refusal.{Refusal}
 use Rattle.cc_receiver.specs.Receivers.{HasReceived, frame_count}

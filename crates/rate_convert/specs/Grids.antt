@@ -11,7 +11,7 @@ use Rattle.line21_codes.specs.declared.channels.Chan.{Chan}
 use Rattle.line21_codes.specs.declared.channels.Chan.TheVariants.{Cc1, Cc2, Cc3, Cc4}
 use Rattle.words_files.specs.Received.{received_grids}
 
--- what the frames become shows the same behind the last of them: each channel and each service
+-- what the frames become shows the same after the last of them: each channel and each service
 pub record KeepsGrids (frames : List Frame) : Type 0 where
   pub channels : (chan : Chan) → received_grids (conversion frames) chan ≡ received_grids frames chan
   pub services : (service : ℕ) → IsService service → (id : ℕ) → id < 8 → received_windows (conversion frames) service id ≡ received_windows frames service id

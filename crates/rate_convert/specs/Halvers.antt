@@ -1,5 +1,5 @@
 -- Between crates: the program's answer stands on none of these definitions.
--- What a halver is behind the frames that it took.
+-- What a halver is after the frames that it took.
 use Rattle.std.specs.Prelude.{◌≡◌, ℕ, ◌*◌, List, [], ◌∷◌, ◌++◌, length, Option, Some, None}
 use Rattle.cdp_packets.specs.Packets.{Frame}
 use Rattle.dtvcc_services.specs.Objects.{all_ticks}
@@ -15,7 +15,7 @@ use Rattle.rate_convert.specs.declared.halver.Halver.{Halver}
 abbrev pub misfit_of : Halver → Option Misfit
 misfit_of halver = halver.misfit
 
--- the words that carry the halves of the frame of a number, one behind the other
+-- the words that carry the halves of the frame of a number, one after the other
 abbrev pub halves_words : ℕ → Frame → List ℕ
 halves_words number frame = carried_words (first_half_of number frame) ++ carried_words (second_half_of number frame)
 
@@ -29,7 +29,7 @@ pub record HasHalved (frames : List Frame) (halver : Halver) : Type 0 where
   pub none : misfit_of halver ≡ None
   pub words : (earlier : List Frame) (last : Frame) → frames ≡ earlier ++ last ∷ [] → halver.words.items ≡ halves_words (length earlier) last
 
--- it took one more frame behind earlier ones: that has a misfit, or else it is as before
+-- it took one more frame after earlier ones: that has a misfit, or else it is as before
 abbrev pub TookBy : Option Misfit → List Frame → Frame → Halver → Type 0
 TookBy None earlier last halver = HasHalved (earlier ++ last ∷ []) halver
 TookBy (Some found) earlier last halver = IsMisfitAt earlier last found

@@ -14,7 +14,7 @@ use Rattle.rate_convert.specs.Conversion.{IsConvertible, of_field}
 use Rattle.line21_codes.specs.declared.channels.FieldNumber.TheVariants.{One, Two}
 use Rattle.rate_convert.specs.Grids.{IsChanged, KeepsGrids, grid_place}
 
--- this holds of a frame that comes behind earlier ones, with the number that was seen or the first grid that shows something else
+-- this holds of a frame that comes after earlier ones, with the number that was seen or the first grid that shows something else
 abbrev pub Holds : List Frame → Frame → MisfitKind → Type 0
 Holds earlier frame (misfit.Rate code) = (frame.rate ≢ F2997) × (code ≡ rate_code frame.rate)
 Holds earlier frame (misfit.Count seen) = (seen ≢ 20) × (seen ≡ length (packet_triplets frame))
@@ -36,12 +36,12 @@ rank (misfit.Changed which) = 5
 abbrev pub IsMisfitAt : List Frame → Frame → Misfit → Type 0
 IsMisfitAt earlier frame found = (found.frame ≡ length earlier) × IsFirstTried (Holds earlier frame) rank found.kind
 
--- a frame has none: it can be converted, and what is seen behind it stays as it is
+-- a frame has none: it can be converted, and what is seen after it stays as it is
 pub record IsFit (earlier : List Frame) (frame : Frame) : Type 0 where
   pub convertible : IsConvertible frame
   pub keeps : KeepsGrids (earlier ++ frame ∷ [])
 
--- so has each of frames, behind those before it
+-- so has each of frames, after those before it
 abbrev pub AreFit : List Frame → Type 0
 AreFit frames = (earlier : List Frame) (frame : Frame) (later : List Frame) → frames ≡ earlier ++ frame ∷ later → IsFit earlier frame
 

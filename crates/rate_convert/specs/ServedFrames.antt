@@ -1,5 +1,5 @@
 -- Between crates: the program's answer stands on none of these definitions.
--- Services that took frames, one behind another (CTA-708-E, sections 5 to 8).
+-- Services that took frames, one after another (CTA-708-E, sections 5 to 8).
 use Rattle.std.specs.Prelude.{◌≡◌, ℕ, ◌+◌, ◌<◌, List, [], ◌∷◌, ◌++◌}
 use Rattle.cc_base.specs.declared.rate.Rate.TheVariants.{F5994}
 use Rattle.cc_data.specs.declared.triplet.Triplet.{Triplet}
@@ -20,7 +20,7 @@ pub record AreServed (frames : List Frame) (served : Served) : Type 0 where
   pub leads : (service : ℕ) → earlier service ++ last service ≡ service_events service frames
   pub before : (others : List Frame) (newest : Frame) → frames ≡ others ++ newest ∷ [] → (service : ℕ) → earlier service ≡ service_events service others
 
--- two frames at 59.94 of these triplets come behind those that they took
+-- two frames at 59.94 of these triplets follow those that they took
 pub record AreNext (frames : List Frame) (served : Served) (first second : List Triplet) (one two : Frame) : Type 0 where
   pub took : AreServed frames served
   pub few : all_ticks served.services + 1 < 4294967295

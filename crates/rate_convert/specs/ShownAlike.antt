@@ -1,5 +1,5 @@
 -- Between crates: the program's answer stands on none of these definitions.
--- What a receiver shows behind frames that are cut in halves: what it shows behind the whole frames.
+-- What a receiver shows after frames that are cut in halves: what it shows after the whole frames.
 use Rattle.std.specs.Prelude.{◌≡◌, ℕ, List, []}
 use Rattle.cc_receiver.specs.ReceivedServices.{received_windows}
 use Rattle.cdp_packets.specs.Packets.{Frame}

@@ -32,7 +32,7 @@ impl Converter {
     ghost use Rattle.rate_convert.specs.Halvers.{halves_words};
     ghost use Rattle.rate_convert.specs.Misfits.{AreFit, HasMisfit};
 
-    /// A converter that was fed nothing. The error comes where memory for its screens and services isn't found.
+    /// A converter that was fed nothing. The error comes if memory for its screens and services isn't found.
     pub fn new(alloc: Global) -> Result<Converter, AllocError>
         ensures { IfOk result (HasConverted []) }
     {
@@ -42,7 +42,7 @@ impl Converter {
         })
     }
 
-    /// Reads the next bytes, up to the end of an ancillary packet: it stops behind the word that ends one. Fewer than 2,147,483,647
+    /// Reads the next bytes, up to the end of an ancillary packet: it stops after the word that ends one. Fewer than 2,147,483,647
     /// frames have ended before, none with a misfit. A word is refused where and for what a `Receiver` refuses it; a refusal is kept and
     /// answered from then on, with nothing read.
     pub fn feed(&mut self, bytes: &[u8]) -> Result<Fed, Refusal>

@@ -9,7 +9,7 @@ ghost use Rattle.rate_convert.specs.HalvedServices.{HalvesShowAlike};
 ghost use Rattle.rate_convert.specs.ShownAlike.{DelayedHalvesShowTheSame, HalvesShowTheSame};
 ghost use Rattle.rate_convert.specs.UndelayedServices.{HalvesAreOne};
 
-/// Behind each frame that is cut in halves a service shows what it shows behind the whole frame, where each delay lasts twice as many
+/// After each frame that is cut in halves a service shows what it shows after the whole frame, where each delay lasts twice as many
 /// frames at twice the rate (CTA-708-E, Delay).
 pub fn law_of_delayed_services()
     ensures { HalvesShowAlike }
@@ -31,7 +31,7 @@ pub fn law_of_halved_frames()
     ensures { HalvedFramesTellHalves }
 {}
 
-/// Behind frames that are cut in halves a receiver shows the same: the grids of line 21 always, and the windows of a service that is
+/// After frames that are cut in halves a receiver shows the same: the grids of line 21 always, and the windows of a service that is
 /// sent no delay.
 pub fn law_of_shown_halves()
     ensures { HalvesShowTheSame }

@@ -32,7 +32,7 @@ pub struct Halver {
 impl Halver {
     ghost use Rattle.rate_convert.specs.Halvers.{HasHalved, Took, halves_words, misfit_of};
 
-    /// Before the first frame. The error comes where memory for its services isn't found.
+    /// Before the first frame. The error comes if memory for its services isn't found.
     pub fn new(alloc: Global) -> Result<Halver, AllocError>
         ensures { IfOk result (HasHalved []) }
     {

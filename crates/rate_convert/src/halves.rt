@@ -58,7 +58,7 @@ impl Halves {
         words
     }
 
-    /// Services take both, one behind the other. Says whether something that is seen of a service may have changed.
+    /// Services take both, one after the other. Says whether something that is seen of a service may have changed.
     pub(crate) fn serve(&self, served: &mut Served) -> bool
         ensures served { (frames : List Frame) (one two : Frame)
             → AreNext frames served.old self.now.first self.now.second one two
@@ -122,7 +122,7 @@ fn first_or_filler(triplets: &[Triplet]) -> Triplet
     }
 }
 
-// Puts the bytes of the ancillary packet of a half behind others, by the low 16 bits of its frame number and its triplets.
+// Puts the bytes of the ancillary packet of a half after others, by the low 16 bits of its frame number and its triplets.
 fn put_half(counter: u16, triplets: &[Triplet; 10], out: &mut ArrayVec<u8, 200>)
     requires kinds { All (λ t. t.kind < 4) triplets.now }
     requires room { array_vec_len out.old ≤ 100 }
@@ -144,7 +144,7 @@ fn write_half(counter: u16, triplets: &[Triplet; 10], out: &mut ArrayVec<u8, 524
     write_triplets(Rate::F5994, counter, triplets, out);
 }
 
-// Puts the hundred bytes of a packet behind others.
+// Puts the hundred bytes of a packet after others.
 fn append(packet: &ArrayVec<u8, 524>, out: &mut ArrayVec<u8, 200>)
     requires size { array_vec_len packet.now ≡ 100 }
     requires room { array_vec_len out.old ≤ 100 }

@@ -49,7 +49,7 @@ impl Sorted {
         sorted
     }
 
-    // One more triplet, behind the others.
+    // One more triplet, after the others.
     fn add(&mut self, triplet: Triplet)
         requires ones { length self.old.ones.items < 20 }
         requires twos { length self.old.twos.items < 20 }
@@ -90,7 +90,7 @@ fn has_kind(triplet: Triplet, kind: u8) -> bool
     triplet.valid && triplet.kind == kind
 }
 
-// Puts a triplet behind others, or leaves it out.
+// Puts a triplet after others, or leaves it out.
 fn keep_if(keep: bool, triplet: Triplet, kept: &mut ArrayVec<Triplet, 20>)
     requires { length kept.old.items < 20 }
     ensures { kept.new.items ≡ (if keep then kept.old.items ++ triplet ∷ [] else kept.old.items) }

@@ -117,7 +117,7 @@ with_misfit_kind (misfit.Changed which) r = with_which which (record r { misfit 
 abbrev pub with_misfit : Misfit → Report → Report
 with_misfit found r = with_misfit_kind found.kind (record r { frame = found.frame })
 
--- the report of a status, where so many bytes stand in the output
+-- the report of a status, where this many bytes stand in the output
 abbrev pub report_of : Status → ℕ → Report
 report_of (status.Limit which) count = record (blank (status.Limit which) count) { limit = limit_number which }
 report_of (status.Malformed place reason) count = with_place place reason (blank (status.Malformed place reason) count)

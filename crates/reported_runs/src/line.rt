@@ -39,7 +39,7 @@ impl Sink for Line {
     }
 }
 
-/// The line of a status, of which Ok has none, and behind it zeros: at least one. Where a line has more than 159 bytes, its front. No
+/// The line of a status, of which Ok has none, and after it zeros: at least one. Where a line has more than 159 bytes, its front. No
 /// run ends with Usage: an argument is out of range; nor does memory fail to take what is written but for room.
 pub fn text_of(status: Status) -> [u8; TEXT]
     ensures { result ≡ text_of status }

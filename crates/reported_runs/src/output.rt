@@ -11,7 +11,7 @@ pub(crate) struct WholeOutput {
 }
 
 impl WholeOutput {
-    // An empty one; so many bytes need no further memory.
+    // An empty one; this many bytes need no further memory.
     pub(crate) fn new(alloc: Global, room: usize) -> Result<WholeOutput, AllocError>
         ensures bytes { IfOk result (λ output. output.bytes.items ≡ []) }
         ensures faults { IfOk result (λ output. output.faults ≡ 0) }

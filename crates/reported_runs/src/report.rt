@@ -51,11 +51,11 @@ pub struct Report {
     pub wanted: u64,
     /// Zeros, for fields to come.
     pub reserved: [u64; 7],
-    /// The line of the status, and behind it zeros: what the program writes to its error output.
+    /// The line of the status, and after it zeros: what the program writes to its error output.
     pub text: [u8; TEXT],
 }
 
-/// The report of a status, where so many bytes stand in the output.
+/// The report of a status, where this many bytes stand in the output.
 pub fn report_of(status: Status, written: u64) -> Report
     ensures { result ≡ report_of status written }
 {
@@ -79,7 +79,7 @@ pub fn report_of(status: Status, written: u64) -> Report
     report
 }
 
-/// The report of a run that wrote so many bytes, of which so many had room, and fill the output.
+/// The report of a run that wrote this many bytes, of which this many had room, and fill the output.
 pub fn report_of_room(wanted: u64, written: u64) -> Report
     ensures { result ≡ report_of_room wanted written }
 {

@@ -9,7 +9,7 @@ use memory_runs::{Ended, Given, Place, Status, run, run_to_end, words_of};
 use std::alloc::{AllocError, Global};
 use std::test::Fail;
 
-/// A source of so many bytes: a front, and after it a piece over and over. It doesn't tell what is left.
+/// A source of this many bytes: a front, and after it a piece over and over. It doesn't tell what is left.
 #[derive(Drop)]
 struct Repeated<'a> {
     next: &'a [u8],
@@ -62,7 +62,7 @@ fn silent_frames(alloc: Global) -> Result<Vec<u8>, AllocError> {
     Ok(frames)
 }
 
-/// `decode` of so many bytes: a front, and after it frames over and over.
+/// `decode` of this many bytes: a front, and after it frames over and over.
 fn decoded(alloc: Global, front: &[u8], frames: &[u8], size: usize) -> Result<Ended, AllocError> {
     let words = words_of(alloc, &["decode"])?;
     let mut input = Repeated {
@@ -102,7 +102,7 @@ fn words_of_more_than_2147483647_bytes_are_the_limit_after_their_changes(
     Ok(())
 }
 
-/// A list of so many pop-on cues, each 40 frames after the one before, on so many frames.
+/// A list of this many pop-on cues, each 40 frames after the one before, on this many frames.
 fn list_of(alloc: Global, cues: u32, frames: usize) -> Result<String, AllocError> {
     let mut list = format!(in alloc; "ccsuite,2,29.97,{frames}\n")?;
     for number in 0..cues {

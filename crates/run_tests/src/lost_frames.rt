@@ -17,7 +17,7 @@ use memory_runs::{Status, run_to_end};
 use std::alloc::{AllocError, Global};
 use std::test::Fail;
 
-/// The number of the last cue of a channel among so many that stand first, counted from 0.
+/// The number of the last cue of a channel among this many that stand first, counted from 0.
 fn last_on(cues: &[Cue], channel: Chan, count: usize) -> Option<usize> {
     let mut last = None;
     for (number, cue) in cues.iter().take(count).enumerate() {
@@ -50,7 +50,7 @@ fn goes_on(cues: &[Cue], channel: Chan, number: usize) -> bool {
     }
 }
 
-/// The cue that stands so many rows above a roll-up cue: each is continued by the next one.
+/// The cue that stands this many rows above a roll-up cue: each is continued by the next one.
 fn above(cues: &[Cue], channel: Chan, number: usize, rows: u8) -> Option<usize> {
     let mut above = number;
     for _ in 0..rows {

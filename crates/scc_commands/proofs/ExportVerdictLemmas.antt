@@ -26,7 +26,7 @@ use Rattle.scc_commands.specs.Exporting.{ExportEnd, IsExportOf, first_standing}
 use Rattle.scc_commands.proofs.WrittenLemmas.{AreWithinDay, HaveNoFinding, at_number, exported_more, one_pair, passes_day}
 use Rattle.scc_commands.specs.Import.{PlacedPairs}
 
--- within the day, in front and behind
+-- within the day, in front and after
 within_back : (time : TimeCode) (pairs more : PlacedPairs) → AreWithinDay time (pairs ++ more) → AreWithinDay time more
 within_back time [] more within = within
 within_back time (placed ∷ pairs) more (fits, within) = within_back time pairs more within
@@ -121,7 +121,7 @@ export_one time aside =
     (said_fit (export_front time) (AreExported time))
     (λ answer. halted_at (export_front time) (AreExported time) (Reason time answer))
 
--- of all words it makes one: a frame behind exported ones is exported, or an export stops at it
+-- of all words it makes one: a frame after exported ones is exported, or an export stops at it
 right_or_wrong : (seen : Rate) → (seen ≡ rate.F2997) ⊎ (seen ≢ rate.F2997)
 right_or_wrong rate.F2997 = inl refl
 right_or_wrong rate.F23976 = inr (λ is. let clash : rate.F23976 ≡ rate.F2997 = is in cc)

@@ -81,7 +81,7 @@ passes_none frame left placed rest rising is apart =
       later = λ f after. refl;
     }
 
--- the frames of pairs end behind the last one
+-- the frames of pairs end after the last one
 pub frames_behind : (pairs : PlacedPairs) (n : ℕ) (last : ℕ × Pair) → frames_to n (pairs ++ last ∷ []) ≡ last.0 + 1
 frames_behind [] n last = refl
 frames_behind (placed ∷ pairs) n last = frames_behind pairs (placed.0 + 1) last

@@ -22,7 +22,7 @@ use Rattle.scc_commands.proofs.WrittenLemmas.{at_number}
 use Rattle.scc_commands.specs.Import.{PlacedPairs, import_columns, import_packets, pair_at}
 use Rattle.scc_commands.proofs.ImportLemmas.{columns_bytes, none_before, other_number}
 
--- a pair a frame, of so many frames from one on
+-- a pair a frame, of this many frames from one on
 abbrev filled : PlacedPairs → ℕ → ℕ → PlacedPairs
 filled pairs frame zero = []
 filled pairs frame (suc n) = (frame, pair_at pairs frame) ∷ filled pairs (suc frame) n
@@ -44,7 +44,7 @@ ends_behind (placed ∷ pairs) low from (first, rising) within =
 same_number : (m : ℕ) → nat_eq m m ≡ true
 same_number m = grind arith
 
--- what is to be shown of the frames behind one
+-- what is to be shown of the frames after one
 abbrev SameBehind : ℕ → ℕ → PlacedPairs → Type 0
 SameBehind n frame left = (w : Standing) → AreRising frame left → frames_to frame left ≡ frame + n → text_from w (filled left frame n) ≡ text_from w left
 
@@ -63,7 +63,7 @@ pair_here n frame placed left w same rising count at =
     ∙ ap (λ t. piece_of w frame placed.1 ++ t) (same (stand_behind w frame placed.1) (subst (λ f. AreRising f left) next rising) ends)
     ∙ ap (λ f. piece_of w f placed.1 ++ text_from (stand_behind w f placed.1) left) (sym at)
 
--- or behind it
+-- or after it
 pair_later : (n frame : ℕ) (placed : ℕ × Pair) (left : PlacedPairs) (w : Standing) → SameBehind n (suc frame) (placed ∷ left) → frame ≤ placed.0 → AreRising (placed.0 + 1) left
     → frames_to (placed.0 + 1) left ≡ frame + suc n → placed.0 ≢ frame
     → text_from w (filled (placed ∷ left) frame (suc n)) ≡ text_from w (placed ∷ left)

@@ -31,7 +31,7 @@ reason_status reason.Day = status.Limit limit.Day
 abbrev pub first_standing : TimeCode → Standing
 first_standing time = standing_first (frame_number time) time.drop_frame
 
--- an export stands behind frames, which are exported
+-- an export stands after frames, which are exported
 pub record StandsBehind (time : TimeCode) (frames : List Frame) (export : Exporting) : Type 0 where
   pub are_exported : AreExported time frames
   pub writer : standing_of export.writer ≡ stand_after (first_standing time) (exported frames)

@@ -35,7 +35,7 @@ impl Reason for ExportStop {
 /// An export on its way: where the SCC file of the frames' pairs of field 1 stands.
 #[derive(Drop)]
 pub struct Exporting {
-    /// Behind the frames so far.
+    /// After the frames so far.
     pub writer: SccWriter,
 }
 

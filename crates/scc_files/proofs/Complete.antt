@@ -83,7 +83,7 @@ hex_is_no_blank byte value is = grind (arith, common_steps)
 pub hex_is_no_space : (byte value : ℕ) → hex_value byte ≡ Some value → nat_eq byte 32 ≡ false
 hex_is_no_space byte value is = grind (arith, common_steps)
 
--- a word, behind its first digit
+-- a word, after its first digit
 pub word_read : (j : Bool) (p : Position) (v q r s : ℕ) (b c d : ℕ) (rest : List ℕ) (out : List (ℕ × Pair))
     → hex_value b ≡ Some q → hex_value c ≡ Some r → hex_value d ≡ Some s
     → Reads j (phase.Whole (record { a = 16 * v + q; b = 16 * r + s })) (pairs_on p 1) rest out
@@ -151,7 +151,7 @@ after_pairs p (pair ∷ pairs) = after_pairs (pairs_on p 1) pairs
 abbrev pub AtEnds : Bool → Position → List ℕ → List (ℕ × Pair) → Type 0
 AtEnds j p rest out = (at : Phase) → IsEnding at → Reads j at p rest out
 
--- words behind a word
+-- words after a word
 pub words_read : (j : Bool) (pairs : List Pair) (p : Position) (last : Pair) (words rest : List ℕ) (out : List (ℕ × Pair)) → AreSpacedWords pairs words
     → AtEnds j (after_pairs p pairs) rest out → Reads j (phase.Whole last) p (words ++ rest) (one_a_frame p.next pairs ++ out)
 words_read j [] p last [] rest out are ends = ends (phase.Whole last) (whole_ends last)

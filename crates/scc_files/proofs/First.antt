@@ -1,4 +1,4 @@
--- The first offence of bytes: nothing before it offends, and no file goes on with it.
+-- The first offence of bytes: nothing before it offends, and no file can continue with it.
 use Rattle.std.proofs.Common.{◌≡◌, ℕ, zero, suc, ◌+◌, ◌-◌, ◌*◌, ◌<◌, ◌⊎◌, Bool, true, false, cond, nat_eq, nat_lt, refl, sym, ◌∙◌, ap, subst, arith, lit<, List, [], ◌∷◌, ◌++◌, append_assoc, append-nil, length, take, drop, drop-cons, add-one, get_or, Option, Some, None, Result, Ok, Err, inl, inr, ⊎_elim}
 use Rattle.std.specs.Prelude.{codes, slice_set, ⊤}
 use Rattle.std.specs.Option.{option_and_then}
@@ -242,7 +242,7 @@ form_reads lines bytes form =
     let (out, placed) = form_placed lines at_first_frame in
     record { out = out; is = form_read false lines bytes out form placed }
 
--- no file in form goes on with a byte that no phase goes on with
+-- no file in form can continue with a byte that no phase can continue with
 pub byte_offends : (before : List ℕ) (byte : ℕ) (s : Reader) → reach true at_first before ≡ Some s → phase_after s.phase byte ≡ None → BeginsForm (before ++ byte ∷ []) → ⊥
 byte_offends before byte s reaches stuck begins =
     let form = same_phase before (phase.First 0) at_first_frame at_first_frame s reaches in

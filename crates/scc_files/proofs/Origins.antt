@@ -1,4 +1,4 @@
--- How a phase was reached: what the bytes before it are, and the reason where no line goes on behind them.
+-- How a phase was reached: what the bytes before it are, and the reason where no line goes on after them.
 use Rattle.std.proofs.Common.{◌≡◌, ℕ, ◌+◌, ◌*◌, ◌<◌, ◌⊎◌, Bool, true, false, cond, nat_eq, refl, sym, ◌∙◌, ap, subst, arith, lit<, List, [], ◌∷◌, ◌++◌, append_assoc, append-nil, length, take, Option, Some, None, Result, Ok, Err, inl, inr, ⊎_elim}
 use Rattle.std.specs.Prelude.{slice_index, slice_set, ⊤}
 use Rattle.std.specs.Option.{option_and_then, option_map}
@@ -159,7 +159,7 @@ target phase.Between byte to is =
     (λ c. cases (hex_value byte) c.1)
     (chose (nat_eq byte 32) (Some phase.Between) (word_or_end byte (hex_value byte)) to is)
 
--- an open text stands behind a line's end
+-- an open text follows a line's end
 pub record TextOrigin (before : List ℕ) (at : ℕ) (text : List ℕ) (p : Position) : Type 0 where
   pub start : List ℕ
   pub is : before ≡ start ++ take at text
@@ -257,7 +257,7 @@ module _ (before : List ℕ) (byte : ℕ) (p : Position) where
   step_origin (phase.Whole pair) from x reaches origin t is = subst (λ (y : Stepped). Origin (before ++ byte ∷ []) y.0) (ok_is is) tt
   step_origin phase.Between from x reaches origin t is = subst (λ (y : Stepped). Origin (before ++ byte ∷ []) y.0) (ok_is is) tt
 
--- bytes behind bytes that are taken
+-- bytes after bytes that are taken
 pub reach_append : (j : Bool) (xs ys : List ℕ) (r s : Reader) → reach j r xs ≡ Some s → reach j r (xs ++ ys) ≡ reach j s ys
 reach_append j [] ys r s is = ap (λ x. reach j x ys) (some_reader is)
 reach_append j (byte ∷ xs) ys r s is =

@@ -11,7 +11,7 @@ use Rattle.scc_files.specs.Words.{pair_word}
 use Rattle.scc_files.specs.Writing.{Standing, end_text, piece_of, stand_behind}
 use Rattle.scc_files.specs.Written.{Stretch, head_text, stretch_line, stretches_of, stretches_with, written_file, written_front}
 
--- the stretch of a pair and what goes on with it
+-- the stretch of a pair and what continues with it
 abbrev pub stretch_from : ℕ → Pair → List Pair → Stretch
 stretch_from frame pair more = record { frame = frame; first = pair; more = more }
 
@@ -81,7 +81,7 @@ module _ (start : ℕ) (drop_frame : Bool) where
   abbrev time_text : ℕ → List ℕ
   time_text frame = text_of (time_at (start + frame) drop_frame)
 
-  -- a pair that goes on with a stretch, or begins one after it
+  -- a pair that continues with a stretch, or begins one after it
   pair_by : (end frame : ℕ) (pair : Pair) (stretches : List Stretch) (b : Begun frame pair stretches) (test : Bool) → nat_eq end frame ≡ test
       → cond (nat_eq end frame) (32 ∷ pair_word pair) (10 ∷ 10 ∷ (time_text frame ++ (9 ∷ pair_word pair))) ++ (spaced_words b.more ++ apart b.later)
       ≡ cond (nat_eq end frame) (spaced_words (pair ∷ b.more) ++ apart b.later) (apart (stretch_from frame pair b.more ∷ b.later))

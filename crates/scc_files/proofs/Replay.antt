@@ -1,4 +1,4 @@
--- Bytes that are taken, and what is read behind them.
+-- Bytes that are taken, and what is read after them.
 use Rattle.std.proofs.Common.{◌≡◌, ℕ, ◌+◌, ◌-◌, Bool, true, false, cond, refl, sym, ◌∙◌, ap, subst, arith, add-zero, List, [], ◌∷◌, ◌++◌, length, Option, Some, None, Result, Ok, Err}
 use Rattle.std.specs.Option.{option_and_then}
 use Rattle.cc_base.specs.declared.refusal.Refusal.{Refusal}
@@ -14,7 +14,7 @@ use Rattle.scc_files.proofs.Complete.{judged_is}
 use Rattle.scc_files.proofs.Sound.{Pairs, err_ok, judged_text, ok_is}
 use Rattle.scc_files.proofs.Stays.{err_is, refused_ahead, refused_behind}
 
--- the reader behind bytes, where none of them offends
+-- the reader after bytes, where none of them offends
 abbrev pub reader_of : Result Stepped Offence → Option Reader
 reader_of (Ok stepped) = Some stepped.0
 reader_of (Err offence) = None
@@ -88,7 +88,7 @@ pub text_step : (to : Phase) (judge : Result Position Offence) (x : Stepped) →
 text_step to (Ok s) x is = (s, refl, ok_is is)
 text_step to (Err offence) x is = absurd (err_ok is)
 
--- what is read behind bytes that are taken
+-- what is read after bytes that are taken
 pub record ReadsAll (j : Bool) (r : Reader) (bytes : List ℕ) (place : ℕ) : Type 0 where
   pub out : Pairs
   pub is : read_from j place r bytes ≡ Ok out

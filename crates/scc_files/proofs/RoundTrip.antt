@@ -71,7 +71,7 @@ pub of_day : (null : Bool) (day at : ℕ) → null ≡ false → (not null && na
 of_day true day at shown is = absurd (cc)
 of_day false day at shown is = below day at is
 
--- the rest of a file, behind a word
+-- the rest of a file, after a word
 pub record Within (start first behind : ℕ) (text : List ℕ) (left : List (ℕ × Pair)) : Type 0 where
   pub ps : List Pair
   pub words : List ℕ
@@ -83,7 +83,7 @@ pub record Within (start first behind : ℕ) (text : List ℕ) (left : List (ℕ
   pub timed : (last : ℕ) → last ≤ start + behind → AreTimed last lines
   pub placed : counted_from first left ≡ one_a_frame (behind - first) ps ++ placed_from (Some (start + first)) (behind - first + length ps) lines
 
--- a line of a pair and those that go on with its stretch
+-- a line of a pair and those that continue with its stretch
 pub line_is : (start : ℕ) (drop_frame : Bool) (frame : ℕ) (pair : Pair) (ps : List Pair) (words : List ℕ) → pair.a < 256 → pair.b < 256 → start + frame < day_frames drop_frame
     → AreSpacedWords ps words
     → IsTimedLine (record { time = time_at (start + frame) drop_frame; first = pair; more = ps })

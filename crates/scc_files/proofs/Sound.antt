@@ -29,7 +29,7 @@ use Rattle.scc_files.proofs.Complete.{Placed, after_pairs, judged_time}
 abbrev pub Pairs : Type 0
 Pairs = List (ℕ × Pair)
 
--- what may follow: lines at a line's end, spaces and then these, a line at its start, words behind a word, and so on
+-- what may follow: lines at a line's end, spaces and then these, a line at its start, words after a word, and so on
 pub record LinesAt (j : Bool) (p : Position) (bytes : List ℕ) (out : Pairs) : Type 0 where
   pub lines : List (Option TimedLine)
   pub are : AreLines lines bytes
@@ -338,7 +338,7 @@ pub no_gap : (j : Bool) (p : Position) (byte value : ℕ) (bytes : List ℕ) (ou
 no_gap j p byte value bytes out is one =
     record { blanks = []; a = byte; value = value; rest = bytes; are = tt; a_is = is; behind = one; is = refl }
 
--- a line, behind its time code's text
+-- a line, after its time code's text
 pub line_of_text : (j : Bool) (p : Position) (front : List ℕ) (bytes : List ℕ) (out : Pairs) → TextThen front j p bytes out → StartAt j p (front ++ bytes) out
 line_of_text j p front bytes out t =
     let timed = t.behind in

@@ -196,7 +196,7 @@ lf_starts (phase.Three first value) to is = absurd (none_phase is)
 lf_starts (phase.Whole pair) to is = some_phase is
 lf_starts phase.Between to is = some_phase is
 
--- a file that begins with whole lines may go on with any time code's text
+-- a file that begins with whole lines may continue with any time code's text
 pub line_starts : (start : List ℕ) → BeginsFile start → EndsLine start
     → (p : Position) × (reach true at_first start ≡ Some (record { phase = phase.Start; position = p }))
 line_starts start begins (front, lf) =

@@ -1,6 +1,6 @@
 -- Believed: the program's answer stands on these definitions.
 -- The lines of SCC files, by cases on what a line says, and which bytes are an SCC file in form: its first line, and then lines that are
--- blank or have a time code and words. Every line but the first stands behind the line end of the line before it, so the last line's
+-- blank or have a time code and words. Every line but the first follows the line end of the line before it, so the last line's
 -- end is one more blank line.
 use Rattle.std.specs.Prelude.{◌≡◌, ℕ, ◌+◌, ◌*◌, ◌⊎◌, true, List, [], ◌∷◌, ◌++◌, Option, Some, None, ⊤}
 use Rattle.line21_codes.specs.declared.pairs.Pair.{Pair}
@@ -40,7 +40,7 @@ pub record IsPairWord (pair : Pair) (bytes : List ℕ) : Type 0 where
   pub d_is : hex_value d ≡ Some s
   pub is : pair ≡ record { a = 16 * p + q; b = 16 * r + s }
 
--- words behind a word, each behind one or more spaces, and then perhaps spaces
+-- words after a word, each after one or more spaces, and then perhaps spaces
 abbrev pub AreSpacedWords : List Pair → List ℕ → Type 0
 AreSpacedWords [] bytes = AreSpaces bytes
 AreSpacedWords (pair ∷ pairs) bytes =
@@ -72,7 +72,7 @@ abbrev pub IsLine : Option TimedLine → List ℕ → Type 0
 IsLine None bytes = AreSpaces bytes
 IsLine (Some line) bytes = IsTimedLine line bytes
 
--- lines, each behind a line end
+-- lines, each after a line end
 abbrev pub AreLines : List (Option TimedLine) → List ℕ → Type 0
 AreLines [] bytes = bytes ≡ []
 AreLines (line ∷ lines) bytes =

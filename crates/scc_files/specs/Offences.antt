@@ -1,7 +1,7 @@
 -- Believed in part: the program's answer stands on some of these definitions.
--- Where bytes first offend that are no SCC file. A byte offends where no file goes on with it; a time code's text is one unit, which is
+-- Where bytes first offend that are no SCC file. A byte offends where no file can continue with it; a time code's text is one unit, which is
 -- judged when it is whole and before the byte after it. So nothing offends in bytes with which some file begins, nor in those that end
--- within a time code's text behind a line's end, where some file begins with the bytes before that text, and some file in form with all of
+-- within a time code's text after a line's end, where some file begins with the bytes before that text, and some file in form with all of
 -- them.
 use Rattle.std.specs.Prelude.{◌≡◌, ℕ, ◌<◌, ◌≤◌, ◌⊎◌, ◌==◌, if◌then◌else◌, List, [], ◌∷◌, ◌++◌, length, Option, Result, Ok, Err, ⊤}
 use Rattle.cc_base.specs.declared.limit_of.LimitOf.TheVariants as limit
@@ -43,12 +43,12 @@ pub record IsUnoffendingText (bytes : List ℕ) : Type 0 where
   pub begins : BeginsFile start
   pub form : BeginsForm bytes
 
--- the reason where no line goes on behind bytes: Header within the first line, before any LF
+-- the reason where no line goes on after bytes: Header within the first line, before any LF
 abbrev pub line_why : List ℕ → Why
 line_why [] = why.Header
 line_why (byte ∷ bytes) = if byte == 10 then why.SccSyntax else line_why bytes
 
--- a byte offends: nothing before it does, and no file in form goes on with it
+-- a byte offends: nothing before it does, and no file in form can continue with it
 pub record ByteOffends (bytes : List ℕ) (refusal : Refusal) : Type 0 where
   pub before : List ℕ
   pub byte : ℕ

@@ -41,7 +41,7 @@ abbrev pub first_text_moved : ℕ → ℕ → Option Phase
 first_text_moved at byte =
     if byte == slice_index first_text at then (if at == 17 then Some phase.FirstSpaces else Some (phase.First (at + 1))) else None
 
--- behind the first line's text
+-- after the first line's text
 abbrev pub first_text_ended : ℕ → Option Phase
 first_text_ended byte =
     if byte == 32 then Some phase.FirstSpaces else if byte == 10 then Some phase.Start else if byte == 13 then Some phase.FirstEnd else None
@@ -60,12 +60,12 @@ text_moved at text byte =
     then (if at == 10 then Some (phase.Timed (slice_set text at byte)) else Some (phase.Text (at + 1) (slice_set text at byte)))
     else None
 
--- behind spaces that follow a word: a further word, or the line's end
+-- after spaces that follow a word: a further word, or the line's end
 abbrev pub word_or_end : ℕ → Option ℕ → Option Phase
 word_or_end byte None = ended byte
 word_or_end byte (Some value) = Some (phase.One value)
 
--- what a byte leads to, if some line goes on with it
+-- what a byte leads to, if some line can continue with it
 abbrev pub phase_after : Phase → ℕ → Option Phase
 phase_after (phase.First at) byte = first_text_moved at byte
 phase_after phase.FirstSpaces byte = first_text_ended byte

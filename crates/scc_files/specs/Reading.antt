@@ -35,7 +35,7 @@ abbrev pub line_at : Position → ℕ → Position
 line_at p frame =
     record { start = Some (unwrap_or p.start frame); last = frame; next = max (frame - unwrap_or p.start frame) p.next }
 
--- where so many pairs later stand
+-- where this many pairs later stand
 abbrev pub pairs_on : Position → ℕ → Position
 pairs_on p count = record p { next = p.next + count }
 
@@ -82,7 +82,7 @@ with_pair None rest = rest
 with_pair (Some placed) (Ok pairs) = Ok (placed ∷ pairs)
 with_pair (Some placed) (Err refusal) = Err refusal
 
--- the pairs behind a step at a place, or the offence
+-- the pairs after a step at a place, or the offence
 abbrev pub behind : ℕ → Result Stepped Offence → (Reader → Result (List (ℕ × Pair)) Refusal) → Result (List (ℕ × Pair)) Refusal
 behind place (Err offence) rest = Err (record { place = place - offence.back; why = offence.why })
 behind place (Ok (r, given)) rest = with_pair given (rest r)

@@ -17,7 +17,7 @@ one_a_frame frame [] = []
 one_a_frame frame (pair ∷ pairs) = (frame, pair) ∷ one_a_frame (frame + 1) pairs
 
 -- the pairs of lines at their frames, counted from the first time code's frame of the day, `start`: a line's first pair stands at the
--- line's frame, or at `next`, the frame behind the last pair, whichever is later
+-- line's frame, or at `next`, the frame after the last pair, whichever is later
 abbrev pub placed_from : Option ℕ → ℕ → List (Option TimedLine) → List (ℕ × Pair)
 placed_from start next [] = []
 placed_from start next (None ∷ lines) = placed_from start next lines

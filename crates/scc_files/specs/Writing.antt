@@ -15,7 +15,7 @@ use Rattle.scc_files.specs.declared.writer.SccPut.{SccPut}
 use Rattle.scc_files.specs.declared.writer.SccPut.TheVariants as scc_put
 use Rattle.scc_files.specs.declared.writer.SccWriter.{SccWriter}
 
--- where a writer stands: the frame of the day of frame 0, whether its day counts with drop frame, and the frame behind the last pair
+-- where a writer stands: the frame of the day of frame 0, whether its day counts with drop frame, and the frame after the last pair
 -- that was put
 pub record Standing : Type 0 where
   pub start : ℕ
@@ -30,7 +30,7 @@ abbrev pub between : Option ℕ → List ℕ
 between None = []
 between (Some behind) = 10 ∷ 10 ∷ []
 
--- a pair on the frame behind the last one goes on with its stretch
+-- a pair on the frame after the last one continues with its stretch
 abbrev pub goes_on_with_stretch : Option ℕ → ℕ → Bool
 goes_on_with_stretch None frame = false
 goes_on_with_stretch (Some behind) frame = behind == frame
@@ -43,7 +43,7 @@ piece_of w frame pair =
     else if goes_on_with_stretch w.behind frame then 32 ∷ pair_word pair
     else between w.behind ++ (text_of (time_at (w.start + frame) w.drop_frame) ++ (9 ∷ pair_word pair))
 
--- where a writer stands behind a pair
+-- where a writer follows a pair
 abbrev pub stand_behind : Standing → ℕ → Pair → Standing
 stand_behind w frame pair = if is_null pair then w else record w { behind = Some (frame + 1) }
 

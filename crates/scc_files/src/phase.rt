@@ -20,38 +20,38 @@ const SPACE: u8 = 0x20;
 /// Where the bytes read so far have ended within the form of an SCC file.
 #[derive(Clone, Copy)]
 pub enum Phase {
-    /// Behind so many bytes of the first line's text.
+    /// After this many bytes of the first line's text.
     First(u8),
-    /// Behind the first line's text, and perhaps spaces.
+    /// After the first line's text, and perhaps spaces.
     FirstSpaces,
-    /// Behind the CR of the first line's end.
+    /// After the CR of the first line's end.
     FirstEnd,
     /// At the start of a line.
     Start,
-    /// Behind spaces at the start of a line.
+    /// After spaces at the start of a line.
     Blank,
-    /// Behind the CR of a line's end.
+    /// After the CR of a line's end.
     End,
-    /// Behind so many bytes of a time code's text.
+    /// After this many bytes of a time code's text.
     Text {
         /// How many, from 1 to 10.
         at: u8,
         /// The text, whose first bytes these are.
         text: [u8; 11],
     },
-    /// Right behind a time code's text.
+    /// Right after a time code's text.
     Timed([u8; 11]),
-    /// Behind TABs and spaces that follow a time code.
+    /// After TABs and spaces that follow a time code.
     Gap,
-    /// Behind one hex digit of a word, of this value.
+    /// After one hex digit of a word, of this value.
     One(u8),
-    /// Behind two, which are this byte.
+    /// After two, which are this byte.
     Two(u8),
-    /// Behind three: a byte, and the value of a digit.
+    /// After three: a byte, and the value of a digit.
     Three(u8, u8),
-    /// Right behind a word, which is this pair.
+    /// Right after a word, which is this pair.
     Whole(Pair),
-    /// Behind spaces that follow a word.
+    /// After spaces that follow a word.
     Between,
 }
 
@@ -84,7 +84,7 @@ fn only(wanted: u8, phase: Phase, byte: u8) -> Option<Phase>
     if byte == wanted { Some(phase) } else { None }
 }
 
-/// What a byte leads to behind the first line's text.
+/// What a byte leads to after the first line's text.
 fn first_line_end(byte: u8) -> Option<Phase>
     ensures moved { result ≡ first_text_ended byte }
     ensures within { IfSome result HasNumbersInRange }
@@ -97,7 +97,7 @@ fn first_line_end(byte: u8) -> Option<Phase>
     }
 }
 
-/// What a byte that is no space leads to behind spaces that follow a word: a further word, or the line's end.
+/// What a byte that is no space leads to after spaces that follow a word: a further word, or the line's end.
 fn word_or_end(byte: u8) -> Option<Phase>
     ensures moved { result ≡ word_or_end byte (hex_value byte) }
     ensures within { IfSome result HasNumbersInRange }
@@ -157,7 +157,7 @@ fn time_text(at: u8, text: [u8; 11], byte: u8) -> Option<Phase>
 }
 
 impl Phase {
-    /// What a byte leads to; None exactly where no line goes on with it.
+    /// What a byte leads to; None exactly where no line can continue with it.
     pub fn moved(self, byte: u8) -> Option<Phase>
         requires { HasNumbersInRange self }
         ensures moved { result ≡ phase_after self byte }

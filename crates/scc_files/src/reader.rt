@@ -7,7 +7,7 @@ use cc_base::Why;
 use line21_codes::Pair;
 use time_codes::{frame_of, read_time_bytes};
 
-/// What offends: the byte so many bytes before the last one, and the reason.
+/// What offends: the byte this many bytes before the last one, and the reason.
 #[derive(Clone, Copy)]
 pub struct Offence {
     /// How many bytes before the last one.

@@ -62,7 +62,7 @@ impl Gathered {
 /// first line's time code. One pass over the bytes; the only memory taken is for the pairs.
 ///
 /// Malformed comes exactly where the bytes are no SCC file, with the place and the reason of their first offence: Header at the first
-/// byte that no first line has, SccSyntax at the first byte that no line goes on with, both at the number of bytes where the file
+/// byte that no first line has, SccSyntax at the first byte that no line can continue with, both at the number of bytes where the file
 /// ends too soon; NoSuchTime and Backwards at the first byte of a time code's text, which is judged when it is whole. Limit (Frames)
 /// comes exactly where the bytes are an SCC file of more than 2,592,000 frames.
 pub fn read_scc(alloc: Global, bytes: &[u8]) -> Result<SccPairs, SccFault>

@@ -29,7 +29,7 @@ pub struct SccWriter {
     // the frame of the day of frame 0, and whether its day counts with drop frame
     start: u32,
     drop_frame: bool,
-    // the frame behind the last pair that was put
+    // the frame after the last pair that was put
     behind: Option<u32>,
     ghost within: { start < day_frames drop_frame },
 }
@@ -130,7 +130,7 @@ impl SccWriter {
         }
     }
 
-    /// What ends the file: the two line ends behind the last stretch, if there is one.
+    /// What ends the file: the two line ends after the last stretch, if there is one.
     pub fn ending(&self) -> &'static [u8]
         ensures { result.now ≡ end_text self.now.behind }
     {
@@ -140,7 +140,7 @@ impl SccWriter {
         }
     }
 
-    /// Ends the file: puts the two line ends behind the last stretch, if there is one.
+    /// Ends the file: puts the two line ends after the last stretch, if there is one.
     pub fn finish<O: Sink>(&mut self, out: &mut O) -> Result<(), SccPut>
         ensures { FinishesWriting (standing_of self.old) (O.written out.old) (O.written out.new)
             (O.faults out.old) (O.faults out.new) result }

@@ -16,7 +16,7 @@ use Rattle.service_blocks.specs.ServiceBlocks.{AreBlocks, Block, IsHeader, cut, 
 use Rattle.service_blocks.specs.BlockParts.{block_parts, extended_parts, extended_service, service_parts, standard_service}
 use Rattle.service_blocks.specs.Reading.{Open, block_after, block_syntax, judge_byte, judge_extended, judge_part, judge_service, open_after, open_block}
 
--- where so many bytes of the packet are left, and this block is open
+-- where this many bytes of the packet are left, and this block is open
 abbrev pub at : ℕ → List ℕ → Open
 at room block = record { left = Some room; block = block }
 
@@ -54,7 +54,7 @@ judge-header room header is =
 after-header : (header : ℕ) → header ≢ 0 → block_after [] header ≡ open_block header []
 after-header header some = ap (λ (t : Bool). if t then header ∷ [] else open_block header []) (other_test header 0 some)
 
--- what is made of a byte behind a header and others
+-- what is made of a byte after a header and others
 abbrev pub judge_inside : ℕ → List ℕ → ℕ → Step BlockPart
 judge_inside header rest byte = if is_extended header then judge_extended rest byte else judge_service (standard_service (header / 32)) byte
 
@@ -81,7 +81,7 @@ service_none : (service : Option ℕ) → service_parts service [] ≡ []
 service_none None = refl
 service_none (Some service) = refl
 
--- the parts of bytes that come behind a header and these ones
+-- the parts of bytes that follow a header and these ones
 abbrev pub parts_inside : ℕ → List ℕ → List ℕ → List BlockPart
 parts_inside header done [] = []
 parts_inside header done (byte ∷ bytes) = step_parts (judge_inside header done byte) ++ parts_inside header (done ++ byte ∷ []) bytes
@@ -137,7 +137,7 @@ inside_taken header done byte =
 pub rest_taken : (header : ℕ) (done : List ℕ) (left byte : ℕ) → IsTaken (judge_byte (header ∷ done) left byte)
 rest_taken header done left byte = IsTaken-if (header == 0) _ _ tt (inside_taken header done byte)
 
--- bytes behind a header and others, as many as the block has at most
+-- bytes after a header and others, as many as the block has at most
 reads_rest : (room header : ℕ) (done rest : List ℕ) → header ≢ 0 → length done + length rest ≤ rest_of header → length rest ≤ room
     → Reads block_syntax (at room (open_block header done)) (byte_parts room rest) (parts_inside header done rest) (at (room - length rest) (open_block header (done ++ rest)))
 reads_rest room header done [] some few fits =
@@ -171,7 +171,7 @@ reads_block room header rest is few fits =
     (judge-next room [] header (omega arith) ∙ judge-header room header is) tt
     (after-next room [] header (omega arith) ∙ ap (λ b. at (room - 1) b) (after-header header is.some)) behind)
 
--- bytes behind a header 00
+-- bytes after a header 00
 reads_ignored : (room : ℕ) (ignored : List ℕ) → length ignored ≤ room
     → Reads block_syntax (at room (0 ∷ [])) (byte_parts room ignored) [] (at (room - length ignored) (0 ∷ []))
 reads_ignored room [] fits =
@@ -240,7 +240,7 @@ IsTaken-fits header left taken =
       | false ↦ λ is wrong. absurd wrong
     ] in cases _ refl taken
 
--- the bytes behind the header of a whole block, and those behind it, which are read
+-- the bytes after the header of a whole block, and those after it, which are read
 record IsAhead (room header : ℕ) (bytes : List ℕ) : Type 0 where
   rest : List ℕ
   more : List ℕ

@@ -135,7 +135,7 @@ heard_first triplets more is =
     (AllTaken-split block_syntax nothing_open (parts_of packet_syntax triplets) (parts_from packet_syntax (open_behind packet_syntax triplets) more)
     (subst (AllRead block_syntax) (parts_of-append triplets more) is)).0
 
--- and then of the others, behind them
+-- and then of the others, after them
 pub heard_pieces : (before triplets : List Triplet) → IsHeard (before ++ triplets) → IsHeard before × IsHeardBehind before triplets
 heard_pieces before triplets is =
     AllTaken-split block_syntax nothing_open (parts_of packet_syntax before) (parts_from packet_syntax (open_behind packet_syntax before) triplets)

@@ -1,4 +1,4 @@
--- What stands behind some triplets of a caption channel is a caption channel of its own.
+-- What stands after some triplets of a caption channel is a caption channel of its own.
 use Rattle.std.proofs.Common.{◌≡◌, ◌∙◌, ◌||◌, Bool, true, false, List, [], ◌∷◌, ◌++◌, map, cond, refl, sym, ap, subst}
 use Rattle.std.specs.List.{flat_map, list_all}
 use Rattle.std.proofs.lemmas.Bool.{and_parts}

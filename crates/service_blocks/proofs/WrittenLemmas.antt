@@ -68,7 +68,7 @@ pub first_block : (room : ℕ) (blocks : List Block) (block : Block) (rest : Lis
     → AreBlocks room blocks (block.header ∷ (block.rest ++ rest)) → IsFirst room blocks block rest
 first_block room blocks block rest some many are = first_from room blocks block rest some many (stands room blocks _ are)
 
--- no bytes are no blocks, and neither are bytes behind a header 00
+-- no bytes are no blocks, and neither are bytes after a header 00
 none_from : (room : ℕ) (blocks : List Block) (bytes : List ℕ) → bytes ≡ [] → Stands room blocks bytes → blocks ≡ []
 none_from room [] bytes none stand = refl
 none_from room (block ∷ blocks) bytes none (others, _, same, _) = absurd (let wrong : [] ≡ block.header ∷ (block.rest ++ others) = sym none ∙ same in cc)

@@ -19,7 +19,7 @@ abbrev pub service_parts : Option ℕ → List ℕ → List BlockPart
 service_parts None bytes = []
 service_parts (Some service) bytes = map (part.Byte service) bytes
 
--- bytes behind a header that a second header byte follows
+-- bytes after a header that a second header byte follows
 abbrev pub extended_parts : List ℕ → List BlockPart
 extended_parts [] = []
 extended_parts (second ∷ bytes) = service_parts (extended_service second) bytes

@@ -24,7 +24,7 @@ pub record AreChannel (packets : List ChannelPacket) (blocks : List (List Block)
   pub packets_are : AreChannelPackets packets triplets
   pub blocks_are : HaveBlocks packets blocks
 
--- what packets of these blocks say, behind one of the last number: a reset where a packet is missing, and the bytes of services
+-- what packets of these blocks say, after one of the last number: a reset where a packet is missing, and the bytes of services
 abbrev pub said : Option ℕ → List ChannelPacket → List (List Block) → List BlockPart
 said last (packet ∷ packets) (blocks ∷ others) =
     (if is_gap last (number_of packet.header) then part.Reset ∷ [] else [])
@@ -39,12 +39,12 @@ IsHeard triplets = AllRead block_syntax (parts_of packet_syntax triplets)
 abbrev pub heard_parts : List Triplet → List BlockPart
 heard_parts triplets = parts_of block_syntax (parts_of packet_syntax triplets)
 
--- behind the triplets before, none of these is refused
+-- after the triplets before, none of these is refused
 abbrev pub IsHeardBehind : List Triplet → List Triplet → Type 0
 IsHeardBehind before triplets =
     AllTaken block_syntax (open_behind block_syntax (parts_of packet_syntax before)) (parts_from packet_syntax (open_behind packet_syntax before) triplets)
 
--- what both readers make of triplets behind those before
+-- what both readers make of triplets after those before
 abbrev pub heard_behind : List Triplet → List Triplet → List BlockPart
 heard_behind before triplets =
     parts_from block_syntax (open_behind block_syntax (parts_of packet_syntax before)) (parts_from packet_syntax (open_behind packet_syntax before) triplets)

@@ -12,12 +12,12 @@ use Rattle.service_blocks.specs.ServiceBlocks.{is_extended}
 use Rattle.service_blocks.specs.BlockParts.{extended_service, standard_service}
 use Rattle.service_blocks.specs.Reading.{Open, block_syntax}
 
--- what comes next behind these bytes, which stand behind a header of this size that a second header byte follows
+-- what comes next after these bytes, which follow a header of this size that a second header byte follows
 abbrev pub next_of_extended : ℕ → List ℕ → Next
 next_of_extended size [] = next.Second size
 next_of_extended size (second ∷ bytes) = next.Body (extended_service second) (size - length bytes)
 
--- what comes next behind the open block's bytes
+-- what comes next after the open block's bytes
 abbrev pub next_of : List ℕ → Next
 next_of [] = next.Header
 next_of (header ∷ rest) =

@@ -32,7 +32,7 @@ pub fn blocks_are_cut_in_one_way()
         → (packets ≡ others) × (blocks ≡ more) }
 {}
 
-/// Behind the header of a packet the bytes that are blocks are read, none is refused, and they make the bytes of services that the
+/// After the header of a packet the bytes that are blocks are read, none is refused, and they make the bytes of services that the
 /// blocks say; and bytes of which none is refused are blocks.
 pub fn blocks_are_read()
     ensures read { (room : ℕ) (blocks : List Block) (bytes : List ℕ) → AreBlocks room blocks bytes
@@ -73,8 +73,8 @@ pub fn what_is_read_is_a_channel()
         → AreChannel packets blocks (triplets ++ triplet ∷ more) → ⊥ }
 {}
 
-/// Triplets and more are read exactly where the first ones are and, behind them, the others; and they make what the first ones make,
-/// and then what the others make behind them.
+/// Triplets and more are read exactly where the first ones are and, after them, the others; and they make what the first ones make,
+/// and then what the others make after them.
 pub fn triplets_are_read_piece_by_piece()
     ensures read { (before triplets : List Triplet)
         → IsHeard (before ++ triplets) ↔ (IsHeard before × IsHeardBehind before triplets) }
@@ -82,7 +82,7 @@ pub fn triplets_are_read_piece_by_piece()
         → heard_parts (before ++ triplets) ≡ heard_parts before ++ heard_behind before triplets }
 {}
 
-/// A part is refused exactly where it is the header of a block that says more bytes than its packet has left behind it, and for no
+/// A part is refused exactly where it is the header of a block that says more bytes than its packet has left after it, and for no
 /// other reason.
 pub fn overrun_stands_at_the_header()
     ensures refused { (front : Open) (item : Part)
@@ -98,7 +98,7 @@ pub fn a_byte_of_no_packet_is_passed_over()
         × (open_after front (packet_part.Byte value left) ≡ front) }
 {}
 
-/// Bytes 00 are never refused: behind triplets that are read, one whose two bytes are 00 is read; and one is read with a second byte
+/// Bytes 00 are never refused: after triplets that are read, one whose two bytes are 00 is read; and one is read with a second byte
 /// 00 where it is with another one.
 pub fn zeros_are_never_refused()
     ensures both { (triplets : List Triplet) (triplet : Triplet) → IsHeard triplets

@@ -13,11 +13,11 @@ use channel_packets::PacketPart;
 pub(crate) enum Next {
     /// The header of a block.
     Header,
-    /// The second header byte of a block that has so many bytes behind it.
+    /// The second header byte of a block that has this many bytes after it.
     Second { size: u8 },
-    /// A byte of a block: one of so many that are left of it, for this service, or read past.
+    /// A byte of a block: one of this many that are left of it, for this service, or read past.
     Body { service: Option<u8>, left: u8 },
-    /// One behind a header 00.
+    /// One after a header 00.
     Ignored,
 }
 
@@ -53,7 +53,7 @@ fn extended(second: u8) -> Option<u8>
     }
 }
 
-// What comes next where so many bytes of a block are left.
+// What comes next where this many bytes of a block are left.
 fn body(service: Option<u8>, left: u8) -> Next
     ensures { result ≡ (if left == 0 then next.Header else next.Body service left) }
 {
@@ -86,7 +86,7 @@ impl OpenBlock {
         }
     }
 
-    // Whether the byte behind which so many are left is the packet's next one.
+    // Whether the byte after which this many are left is the packet's next one.
     fn is_next(&self, left: u8) -> bool
         ensures { result ≡ is_next self.now.left left }
     {
@@ -96,7 +96,7 @@ impl OpenBlock {
         }
     }
 
-    // Judges the header of a block, behind which the packet has so many bytes left, and goes on behind it where it isn't refused.
+    // Judges the header of a block, after which the packet has this many bytes left, and goes on after it where it isn't refused.
     fn header(&mut self, header: u8, left: u8) -> Step<BlockPart>
         ensures says { result ≡ judge_byte [] left header }
         ensures next { IsTaken result → self.new.next ≡ next_of (block_after [] header) }
@@ -114,7 +114,7 @@ impl OpenBlock {
         Step::Nothing
     }
 
-    // Judges a byte of the packet, behind which so many are left, and goes on behind it where it isn't refused.
+    // Judges a byte of the packet, after which this many are left, and goes on after it where it isn't refused.
     fn byte(&mut self, value: u8, left: u8) -> Step<BlockPart>
         ensures says { (block : List ℕ) → self.old.next ≡ next_of block
             → result ≡ judge_byte block left value }

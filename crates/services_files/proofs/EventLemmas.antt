@@ -22,12 +22,12 @@ use Rattle.services_files.specs.Events.{event_of, events_behind, events_of, fram
 use Rattle.services_files.specs.CarriedChannel.{file_triplets}
 use Rattle.services_files.proofs.SaidLemmas.{heard_behind-said}
 
--- a frame's events are what is heard of its triplets behind those before
+-- a frame's events are what is heard of its triplets after those before
 pub frame_events-heard : (service : ℕ) (before : List Triplet) (frame : Frame)
     → frame_events service before frame ≡ Tick frame.rate ∷ events_of service (heard_behind before (packet_triplets frame))
 frame_events-heard service before frame = ap (λ parts. Tick frame.rate ∷ events_of service parts) (sym (heard_behind-said before (packet_triplets frame)))
 
--- what is heard of triplets and more, behind others
+-- what is heard of triplets and more, after others
 pub heard_behind-append : (before triplets more : List Triplet)
     → heard_behind before (triplets ++ more) ≡ heard_behind before triplets ++ heard_behind (before ++ triplets) more
 heard_behind-append before triplets more =
@@ -127,7 +127,7 @@ events_said service frames packets blocks channel =
     behind_untimed service [] frames
     ∙ ap (λ ps. events_of service ps) (channel_heard packets blocks (file_triplets frames) channel).says
 
--- what triplets add is what they make behind others
+-- what triplets add is what they make after others
 pub more_said : (before triplets : List Triplet) (packets others : List ChannelPacket) (blocks more : List (List Block))
     → AreChannel packets blocks before → AreChannel others more (before ++ triplets)
     → said None others more ≡ said None packets blocks ++ heard_behind before triplets

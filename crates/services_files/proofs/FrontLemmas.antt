@@ -1,4 +1,4 @@
--- What is open behind triplets: of their last packet so many bytes are left, and its bytes have left this block open.
+-- What is open after triplets: of their last packet this many bytes are left, and its bytes have left this block open.
 use Rattle.std.proofs.Common.{◌≡◌, ℕ, zero, suc, ◌+◌, ◌-◌, ◌*◌, ◌%◌, ◌<◌, ◌≤◌, ◌==◌, ◌⊎◌, inl, inr, if◌then◌else◌, Bool, true, false, List, [], ◌∷◌, ◌++◌, length, Option, Some, None, refl, ap, sym, subst, ◌∙◌, arith, append-nil, length-append}
 use Rattle.std.proofs.lemmas.Bool.Decides.{nat_tests}
 use Rattle.std.proofs.lemmas.List.Elements.{recursion_from_All}
@@ -22,7 +22,7 @@ use Rattle.service_blocks.proofs.BlockLemmas.{at}
 use Rattle.service_blocks.proofs.ChannelLemmas.{Fits, front_behind}
 use Rattle.services_files.proofs.WholeBlockLemmas.{block_from}
 
--- the front behind these bytes of a packet of this size
+-- the front after these bytes of a packet of this size
 pub record IsBehind (size : ℕ) (bytes : List ℕ) (front : Open) : Type 0 where
   pub fits : length bytes ≤ size
   pub left : front.left ≡ Some (size - length bytes)
@@ -171,7 +171,7 @@ all_in_step packet front (triplet ∷ triplets) same =
     (sym (front_from-append open_after front parts (parts_from packet_syntax next triplets)))
     (all_in_step next (front_from open_after front parts) triplets (triplet_in_step (starts triplet) (continues_packet triplet) packet front triplet same))
 
--- behind triplets whose last packet has bytes left, both readers know how many
+-- after triplets whose last packet has bytes left, both readers know how many
 pub left_same : (triplets : List Triplet) (left : ℕ) → (front_behind triplets).left ≡ Some left → (open_behind packet_syntax triplets).left ≡ left
 left_same triplets left some =
     elim (all_in_step packets.nothing_open nothing_open triplets (inr (refl, refl))) [

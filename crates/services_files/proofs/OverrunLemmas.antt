@@ -49,7 +49,7 @@ header_why : (gap : Bool) → step_why {P = BlockPart} (if gap then One part.Res
 header_why true = refl
 header_why false = refl
 
--- a byte behind those of a packet overruns exactly where it passes the packet
+-- a byte after those of a packet overruns exactly where it passes the packet
 passes_of : (size : ℕ) (bytes : List ℕ) (front : Open) (byte left : ℕ) → IsBehind size bytes front → IsOverrun front (Byte byte left) → PassesPacket size bytes byte
 passes_of size bytes front byte left behind is =
     let item = is.is_byte in
@@ -89,7 +89,7 @@ one_why : (one : Option Why) (reason : Why) → first_why one None ≡ Some reas
 one_why None reason is = is
 one_why (Some why) reason is = is
 
--- why one of two bytes is refused, which go on with a packet
+-- why one of two bytes is refused, which continue with a packet
 abbrev bytes_why : Open → ℕ → ℕ → ℕ → Option Why
 bytes_why front left first second = why_refused block_syntax front (step_parts (judge_bytes left first second))
 
@@ -160,7 +160,7 @@ second_refused front left first second some none over =
     ∙ ap (λ w. first_why w (first_why (next_why front left first second) None)) (two_none front left first some none)
     ∙ ap (λ w. first_why w None) (overruns_refused behind (Byte second (left - 2)) over)
 
--- why a triplet is refused behind others
+-- why a triplet is refused after others
 abbrev step_unheard : List Triplet → Step PacketPart → Option Why
 step_unheard triplets step = why_refused block_syntax (front_behind triplets) (step_parts step)
 
@@ -189,7 +189,7 @@ start_unheard triplets triplet is =
     ∙ ap (λ step. step_unheard triplets step) (judge-is (open_behind packet_syntax triplets) triplet true (continues_packet triplet) is refl)
     ∙ ap (λ w. first_why w next) (header_why (is_gap (open_behind packet_syntax triplets).last (number_of triplet.a)))
 
--- one that goes on with a packet
+-- one that continues a packet
 going_unheard : (triplets : List Triplet) (triplet : Triplet) → continues_packet triplet ≡ true
     → why_unheard triplets (triplet ∷ []) ≡ bytes_why (front_behind triplets) (open_behind packet_syntax triplets).left triplet.a triplet.b
 going_unheard triplets triplet is =

@@ -1,4 +1,4 @@
--- Each whole triplet that a reader of a distribution packet hands upward stands behind its half: what is pending is the open
+-- Each whole triplet that a reader of a distribution packet hands upward follows its half: what is pending is the open
 -- triplet's first two bytes.
 use Rattle.std.proofs.Common.{◌≡◌, ℕ, ◌+◌, ◌-◌, ◌/◌, ◌%◌, ◌==◌, ◌||◌, nat_lt, if◌then◌else◌, Bool, true, false, List, [], ◌∷◌, ◌++◌, length, Option, Some, None, refl, ap, sym, subst, ◌∙◌, arith}
 use Rattle.std.proofs.lemmas.Bool.Decides.{nat_tests}
@@ -16,7 +16,7 @@ use Rattle.cdp_packets.specs.declared.parts.CdpPart.TheVariants as part
 use Rattle.cdp_packets.specs.Reading.{Open, bytes_behind, cdp_syntax, count_fits, id_fits, judge_behind, judge_cdp, judge_footer, judge_rate, judge_section, judge_triplet, open_after, section_behind, triplet_behind}
 use Rattle.services_files.proofs.TakenLemmas.{pending_after}
 
--- a whole triplet stands behind the half of its first two bytes
+-- a whole triplet follows the half of its first two bytes
 abbrev pub FollowsHalf : Option Triplet → CdpPart → Type 0
 FollowsHalf pending (part.Triplet triplet) = pending ≡ Some (record triplet { b = 0 })
 FollowsHalf pending _ = Unit {0}
@@ -25,7 +25,7 @@ abbrev pub AreInOrder : Option Triplet → List CdpPart → Type 0
 AreInOrder pending [] = Unit {0}
 AreInOrder pending (p ∷ parts) = FollowsHalf pending p × AreInOrder (pending_after pending p) parts
 
--- what is pending behind parts
+-- what is pending after parts
 abbrev pub pending_from : Option Triplet → List CdpPart → Option Triplet
 pending_from pending parts = front_from pending_after pending parts
 
@@ -34,7 +34,7 @@ abbrev pub Waits : List ℕ → Option Triplet → Type 0
 Waits (first ∷ second ∷ more) pending = pending ≡ Some (triplet_of first second 0)
 Waits _ pending = Unit {0}
 
--- parts are in order, and this open triplet waits behind them
+-- parts are in order, and this open triplet waits after them
 pub record Orders (pending : Option Triplet) (parts : List CdpPart) (triplet : List ℕ) : Type 0 where
   pub in_order : AreInOrder pending parts
   pub waits : Waits triplet (pending_from pending parts)
@@ -103,7 +103,7 @@ section_orders left (id ∷ []) triplet byte pending waits =
     plain_orders pending _ [] (plain_if (id == 0x71 || count_fits left id byte) _ _ (tt, tt) tt) tt
 section_orders left (id ∷ second ∷ rest) triplet byte pending waits = body_orders (id == 0x72) triplet byte pending waits
 
--- the open triplet behind a byte that isn't one of the sections
+-- the open triplet after a byte that isn't one of the sections
 waits_out : (test : Bool) (ended front : Open) (pending : Option Triplet) → ended.triplet ≡ [] → Waits front.triplet pending
     → Waits (if test then ended else front).triplet pending
 waits_out true ended front pending none waits = subst (λ t. Waits t pending) (sym none) tt
@@ -114,7 +114,7 @@ orders_is : (pending : Option Triplet) (parts others : List CdpPart) (triplet ot
 orders_is pending parts others triplet other same is orders =
     subst (λ ps. Orders pending ps triplet) (sym same) (subst (λ t. Orders pending others t) (sym is) orders)
 
--- a byte behind others
+-- a byte after others
 abbrev front_of : List ℕ → ℕ → List ℕ → List ℕ → Open
 front_of bytes total section triplet = record { bytes = bytes; total = total; section = section; triplet = triplet }
 
@@ -124,7 +124,7 @@ out_orders : (size : ℕ) (bytes : List ℕ) (total : ℕ) (section triplet : Li
 out_orders size bytes total section triplet byte pending ended none are waits =
     plain_orders pending _ _ are (waits_out (nat_lt (length bytes) size) ended (front_of bytes total section triplet) pending none waits)
 
--- what is open behind one more byte, in or out of the sections
+-- what is open after one more byte, in or out of the sections
 abbrev inside : Bool → List ℕ → ℕ → List ℕ → List ℕ → ℕ → Open
 inside test bytes total section triplet byte = record {
   bytes = bytes ++ byte ∷ [];
@@ -169,7 +169,7 @@ byte_orders size (a ∷ b ∷ c ∷ d ∷ e ∷ f ∷ g ∷ body) total section 
           (subst (λ t. ArePlain (step_parts (judged t))) (sym is) (plain_footer (size - 7 - length body) f g total byte)) waits
     ] in cases _ refl
 
--- bytes behind a front
+-- bytes after a front
 pub reads_order : (size : ℕ) (front : Open) (bytes : List ℕ) (pending : Option Triplet) → Waits front.triplet pending
     → Orders pending (parts_from (cdp_syntax size) front bytes) (front_from (open_after size) front bytes).triplet
 reads_order size front [] pending waits = record { in_order = tt; waits = waits }

@@ -26,7 +26,7 @@ use Rattle.service_blocks.proofs.ChannelLemmas.{Fits, channel_heard, heard-appen
 use Rattle.service_blocks.proofs.WrittenLemmas.{blocks_unique}
 use Rattle.services_files.specs.Said.{blocks_in, channel_packets_in, first_blocks, packets_started, said_behind, said_in}
 
--- a triplet that starts a packet goes on with none
+-- a triplet that starts a packet continues with none
 starting-continues : (triplet : Triplet) → starts triplet ≡ true → continues_packet triplet ≡ false
 starting-continues triplet is =
     let cases : (b : Bool) → continues_packet triplet ≡ b → b ≡ false = elim [
@@ -34,7 +34,7 @@ starting-continues triplet is =
       | false ↦ λ goes. refl
     ] in cases (continues_packet triplet) refl
 
--- triplets that go on with a packet, up to the next that starts one
+-- triplets that continues a packet, up to the next that starts one
 none_goes_on : (stretches : List TripletStretch) → list_all is_stretch stretches ≡ true
     → prefix_len continues_packet (flat_map stretch_triplets stretches) ≡ 0
 none_goes_on [] all = refl
@@ -55,7 +55,7 @@ stretch_taken : (more rest : List Triplet) → list_all continues_packet more �
     → take_while continues_packet (more ++ rest) ≡ more
 stretch_taken more rest all none = ap (λ n. take n (more ++ rest)) (all_go_on more rest all none) ∙ take-append_seam more rest
 
--- triplets that go on with a packet start none
+-- triplets that continues a packet start none
 strays_start_none : (strays rest : List Triplet) → list_all continues_packet strays ≡ true → packets_started (strays ++ rest) ≡ packets_started rest
 strays_start_none [] rest all = refl
 strays_start_none (stray ∷ strays) rest all =
@@ -233,7 +233,7 @@ heard_behind-said before triplets =
     ∙ ap (drop (length first)) (sym (heard-append before triplets) ∙ heard-said (before ++ triplets))
     ∙ ap (λ parts. drop (length parts) (said_in (before ++ triplets))) (heard-said before)
 
--- and of more triplets it is what the first ones say, and then what the others say behind them
+-- and of more triplets it is what the first ones say, and then what the others say after them
 pub said-append : (before triplets : List Triplet) → said_in (before ++ triplets) ≡ said_in before ++ said_behind before triplets
 said-append before triplets =
     sym (heard-said (before ++ triplets)) ∙ heard-append before triplets

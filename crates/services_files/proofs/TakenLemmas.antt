@@ -46,7 +46,7 @@ taken-why_refused syntax front (item ∷ items) (is, all) =
     ap (λ why. first_why why (why_refused syntax (syntax.after front item) items)) (taken-step (syntax.judge front item) is)
     ∙ taken-why_refused syntax (syntax.after front item) items all
 
--- triplets behind others have no reason exactly where they are heard behind these
+-- triplets after others have no reason exactly where they are heard after these
 pub unheard-none : (before triplets : List Triplet) → why_unheard before triplets ≡ None → IsHeardBehind before triplets
 unheard-none before triplets none =
     why_refused-taken block_syntax (open_behind block_syntax (parts_of packet_syntax before)) (parts_from packet_syntax (open_behind packet_syntax before) triplets) none
@@ -62,7 +62,7 @@ whole_triplets-append parts more = flat_map-append whole_triplet parts more
 one_more : (parts : List CdpPart) (p : CdpPart) → whole_triplets (parts ++ p ∷ []) ≡ whole_triplets parts ++ whole_triplet p
 one_more parts p = whole_triplets-append parts (p ∷ []) ∙ ap (λ ts. whole_triplets parts ++ ts) (append-nil (whole_triplet p))
 
--- each of the parts is heard behind these triplets and those of the parts before it
+-- each of the parts is heard after these triplets and those of the parts before it
 abbrev pub AreTaken : List Triplet → List CdpPart → Type 0
 AreTaken triplets [] = Unit {0}
 AreTaken triplets (p ∷ parts) = IsHeardBehind triplets (tried_at p) × AreTaken (triplets ++ whole_triplet p) parts
@@ -96,7 +96,7 @@ pending_after pending (part.Half triplet) = Some triplet
 pending_after pending (part.Triplet triplet) = None
 pending_after pending _ = pending
 
--- the triplets are heard, and behind them the pending one
+-- the triplets are heard, and after them the pending one
 pub record AreKept (triplets : List Triplet) (pending : Option Triplet) : Type 0 where
   pub heard : IsHeard triplets
   pub half : (triplet : Triplet) → pending ≡ Some triplet → IsHeardBehind triplets (triplet ∷ [])

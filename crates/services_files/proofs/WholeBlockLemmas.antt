@@ -1,4 +1,4 @@
--- No block is open behind bytes of a packet exactly where these are whole blocks.
+-- No block is open after bytes of a packet exactly where these are whole blocks.
 use Rattle.std.proofs.Common.{◌≡◌, ◌≢◌, ℕ, ◌+◌, ◌<◌, ◌≤◌, ◌==◌, ◌&&◌, not, nat_le, if◌then◌else◌, Bool, true, false, List, [], ◌∷◌, ◌++◌, length, refl, ap, sym, subst, ◌∙◌, arith, append_assoc, length-append}
 use Rattle.std.proofs.lemmas.Bool.Decides.{nat_tests}
 use Rattle.std.specs.List.{flat_map, list_all}
@@ -8,7 +8,7 @@ use Rattle.service_blocks.specs.Reading.{block_after, open_block}
 use Rattle.service_blocks.specs.ServiceBlocks.{Block, rest_of}
 use Rattle.services_files.specs.Overruns.{block_bytes, is_whole_block}
 
--- the block that is open behind bytes
+-- the block that is open after bytes
 abbrev pub block_from : List ℕ → List ℕ → List ℕ
 block_from block bytes = front_from block_after block bytes
 
@@ -55,7 +55,7 @@ zero_stays header rest (byte ∷ bytes) zero none =
     zero_stays header [] bytes zero
     (ap (λ (t : Bool). block_from (if t then header ∷ [] else open_block header (rest ++ byte ∷ [])) bytes) (sym (test_same header 0 zero)) ∙ none)
 
--- the block behind its header and these bytes, whole or open
+-- the block after its header and these bytes, whole or open
 opened : (header : ℕ) (done bytes : List ℕ) → header ≢ 0 → length done ≤ rest_of header
     → ((block : List ℕ) → IsBegun block → block_from block bytes ≡ [] → AreWhole (block ++ bytes))
     → block_from (open_block header done) bytes ≡ [] → AreWhole (header ∷ (done ++ bytes))
@@ -89,7 +89,7 @@ wholes (byte ∷ bytes) (header ∷ done) (some, few) none =
     subst (λ bs. AreWhole (header ∷ bs)) (append_assoc done (byte ∷ []) bytes)
     (opened header (done ++ byte ∷ []) bytes some (omega (arith, few, length-append done (byte ∷ []))) (wholes bytes) closed)
 
--- a block behind its header and these bytes closes with the others that it says
+-- a block after its header and these bytes closes with the others that it says
 closing : (header : ℕ) (done rest : List ℕ) → header ≢ 0 → length done + length rest ≡ rest_of header → block_from (open_block header done) rest ≡ []
 closing header done [] some many =
     let ends : nat_le (rest_of header) (length done) ≡ true = grind (arith, nat_tests) in

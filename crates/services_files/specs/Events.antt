@@ -21,11 +21,11 @@ event_of service (part.Byte other value) = if other == service then Byte value �
 abbrev pub events_of : ℕ → List BlockPart → List Event
 events_of service parts = flat_map (event_of service) parts
 
--- the events of a frame, behind the triplets of the frames before it
+-- the events of a frame, after the triplets of the frames before it
 abbrev pub frame_events : ℕ → List Triplet → Frame → List Event
 frame_events service before frame = Tick frame.rate ∷ events_of service (said_behind before (packet_triplets frame))
 
--- the events of frames, behind the triplets of those before them
+-- the events of frames, after the triplets of those before them
 abbrev pub events_behind : ℕ → List Triplet → List Frame → List Event
 events_behind service before [] = []
 events_behind service before (frame ∷ frames) = frame_events service before frame ++ events_behind service (before ++ packet_triplets frame) frames

@@ -8,7 +8,7 @@ use Rattle.service_blocks.specs.declared.parts.BlockPart.{BlockPart}
 use Rattle.service_blocks.specs.Channels.{said}
 use Rattle.service_blocks.specs.ServiceBlocks.{Block, rest_of}
 
--- the packets of triplets: each that starts a packet has one, of it and of those right behind it that go on with a packet
+-- the packets of triplets: each that starts a packet has one, of it and of those right after it that continue with a packet
 abbrev pub packets_started : List Triplet → List ChannelPacket
 packets_started [] = []
 packets_started (triplet ∷ triplets) =
@@ -19,8 +19,8 @@ packets_started (triplet ∷ triplets) =
 abbrev pub channel_packets_in : List Triplet → List ChannelPacket
 channel_packets_in triplets = packets_started (channel_triplets triplets)
 
--- the first blocks of bytes, so many at most: each is a header and as many bytes behind it as it says, or as have come, and the next one
--- stands behind these; a header 00 ends the blocks
+-- the first blocks of bytes, this many at most: each is a header and as many bytes after it as it says, or as have come, and the next one
+-- follows these; a header 00 ends the blocks
 abbrev pub first_blocks : ℕ → List ℕ → List Block
 first_blocks zero bytes = []
 first_blocks (suc most) [] = []
@@ -36,6 +36,6 @@ blocks_in packet = first_blocks (length packet.bytes) packet.bytes
 abbrev pub said_in : List Triplet → List BlockPart
 said_in triplets = said None (channel_packets_in triplets) (map blocks_in (channel_packets_in triplets))
 
--- what triplets say behind those before: what all of them say, without what those before say
+-- what triplets say after those before: what all of them say, without what those before say
 abbrev pub said_behind : List Triplet → List Triplet → List BlockPart
 said_behind before triplets = drop (length (said_in before)) (said_in (before ++ triplets))

@@ -1,7 +1,7 @@
 -- Believed: the library's answers stand on these definitions.
 -- What the services of DTVCC say of the parts of distribution packets (CTA-708-E, sections 5 and 6). A triplet of cc_data is tried
 -- as soon as its second byte has come, with a third byte 00, and it is taken when it is whole: what it brings of channel packets and
--- their service blocks is read behind the whole triplets before it.
+-- their service blocks is read after the whole triplets before it.
 use Rattle.std.specs.Prelude.{List, [], ◌∷◌, Option, Some, None}
 use Rattle.std.specs.List.{flat_map}
 use Rattle.cc_base.specs.declared.why.Why.{Why}
@@ -34,16 +34,16 @@ abbrev pub first_why : Option Why → Option Why → Option Why
 first_why None other = other
 first_why (Some why) other = Some why
 
--- why the first refused one of items is refused behind this front, if one is
+-- why the first refused one of items is refused after this front, if one is
 abbrev pub why_refused : {Front I P : Type 0} → Syntax Front I P → Front → List I → Option Why
 why_refused syntax front [] = None
 why_refused syntax front (item ∷ items) = first_why (step_why (syntax.judge front item)) (why_refused syntax (syntax.after front item) items)
 
--- why the reader of blocks refuses one of triplets, behind the triplets before, if it does
+-- why the reader of blocks refuses one of triplets, after the triplets before, if it does
 abbrev pub why_unheard : List Triplet → List Triplet → Option Why
 why_unheard before triplets =
     why_refused block_syntax (open_behind block_syntax (parts_of packet_syntax before)) (parts_from packet_syntax (open_behind packet_syntax before) triplets)
 
--- why the services refuse a part behind the parts before
+-- why the services refuse a part after the parts before
 abbrev pub services_say : Verdict CdpPart
 services_say before part = why_unheard (whole_triplets before) (tried_at part)

@@ -28,7 +28,7 @@ ghost use Rattle.services_files.specs.Said.{blocks_in, channel_packets_in, said_
 ghost use Rattle.services_files.specs.Services.{services_say, tried_at, whole_triplets};
 ghost use Rattle.services_files.specs.CarriedChannel.{file_triplets};
 
-/// The services take a part exactly where the triplet that it tries is heard behind the whole triplets before it. Parts that are
+/// The services take a part exactly where the triplet that it tries is heard after the whole triplets before it. Parts that are
 /// all taken have whole triplets that are heard, and those of frames' parts are the frames' triplets.
 pub fn triplets_are_tried_and_taken()
     ensures taken { (before : List Part) (next : Part)
@@ -62,7 +62,7 @@ pub fn services_say_what_the_channel_is()
 {}
 
 /// Over all layers, bytes are refused exactly where they have an offending word, at the place of the first and for its reason, and
-/// they aren't refused exactly where no word of them offends. Of bytes that aren't refused, those behind which something is open
+/// they aren't refused exactly where no word of them offends. Of bytes that aren't refused, those after which something is open
 /// are cut short.
 pub fn first_offence_over_all_layers()
     ensures refused { (bytes : List ℕ) (refused : Refused) → All (λ byte. byte < 256) bytes
@@ -118,8 +118,8 @@ pub fn whole_files_are_caught()
         → (frames : List Frame) × IsFileUnder caption_channel frames bytes }
 {}
 
-/// What the readers of packets and of blocks make of any triplets, refused or not, is what the triplets say; and behind others it is what
-/// they say behind these, which is all that they add. Triplets have the packets that are cut from them, a packet that is blocks has those
+/// What the readers of packets and of blocks make of any triplets, refused or not, is what the triplets say; and after others it is what
+/// they say after these, which is all that they add. Triplets have the packets that are cut from them, a packet that is blocks has those
 /// that are cut from its bytes, and a caption channel says what its packets and blocks do.
 pub fn what_triplets_say_is_heard()
     ensures heard { (triplets : List Triplet) → heard_parts triplets ≡ said_in triplets }
@@ -136,7 +136,7 @@ pub fn what_triplets_say_is_heard()
         → said_in triplets ≡ said None packets blocks }
 {}
 
-/// One more frame adds its events behind those of the frames before it.
+/// One more frame adds its events after those of the frames before it.
 pub fn events_come_frame_by_frame()
     ensures { (service : ℕ) (frames : List Frame) (frame : Frame)
         → service_events service (frames ++ frame ∷ [])

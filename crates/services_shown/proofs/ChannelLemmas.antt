@@ -26,7 +26,7 @@ abbrev blocks_for : List Sent → List Block
 blocks_for [] = []
 blocks_for (sent ∷ more) = block_for sent.service sent.bytes ∷ blocks_for more
 
--- they are the blocks of their bytes, whatever is ignored behind them
+-- they are the blocks of their bytes, whatever is ignored after them
 abbrev IsIgnored : List ℕ → Type 0
 IsIgnored [] = Unit {0}
 IsIgnored (byte ∷ bytes) = byte ≡ 0x00
@@ -83,17 +83,17 @@ nothing_sent : (sent : List Sent) → [] ≡ sent_bytes sent → parts_sent sent
 nothing_sent [] none = refl
 nothing_sent (sent ∷ more) none = absurd cc
 
--- behind so many packets the last one has this number
+-- after this many packets the last one has this number
 abbrev pub IsLast : ℕ → Option ℕ → Type 0
 IsLast count None = Unit {0}
 IsLast count (Some last) = (last + 1) % 4 ≡ count % 4
 
--- so the next one isn't behind a gap
+-- so the next one isn't after a gap
 no_gap : (count : ℕ) (last : Option ℕ) → IsLast count last → is_gap last (count % 4) ≡ false
 no_gap count None behind = refl
 no_gap count (Some last) behind = let same : (count % 4 == (last + 1) % 4) ≡ true = grind (arith, nat_tests) in rw same refl
 
--- triplets that are a channel, of which this is said behind a packet of the last number
+-- triplets that are a channel, of which this is said after a packet of the last number
 pub record IsChannel (last : Option ℕ) (says : List BlockPart) (triplets : List Triplet) : Type 0 where
   pub packets : List ChannelPacket
   pub blocks : List (List Block)
@@ -173,7 +173,7 @@ module _ (rate : Rate) (columns : Columns) (has : (frame : ℕ) → HasBlocks co
       (with_frame last (packets_before columns frame) (columns frame).blocks.items here.sent (parts_from (suc frame) n) rest behind here.blocks here.are here.few
       (channel_from (suc frame) n))
 
-  -- all triplets of so many frames from one on, whose first packet makes no gap
+  -- all triplets of this many frames from one on, whose first packet makes no gap
   pub channel_since : (since n : ℕ) → IsChannel None (parts_from since n) (file_triplets (column_packets rate columns since n))
   channel_since since n =
       let triplets = file_triplets (column_packets rate columns since n) in

@@ -1,4 +1,4 @@
--- What a service is sent in a frame is cut into the commands of the frame's events, and behind them commands that load windows.
+-- What a service is sent in a frame is cut into the commands of the frame's events, and after them commands that load windows.
 use Rattle.std.proofs.Common.{◌≡◌, ◌∙◌, ℕ, ◌<◌, true, List, [], ◌∷◌, ◌++◌, All, refl, sym, ap, subst, append_assoc, append-nil}
 use Rattle.std.specs.List.{flat_map, zip}
 use Rattle.std.proofs.lemmas.List.Elements.{All-append, All-cons, All-head, All-nil, All-tail}
@@ -34,7 +34,7 @@ written_cut (command ∷ commands) writable = (
   written_cut commands (All-tail IsWritable command commands writable),
 )
 
--- whole commands one behind another
+-- whole commands one after another
 cut_both : (commands more : List Command) (bytes behind : List ℕ) → IsCut commands [] bytes → IsCut more [] behind
     → IsCut (commands ++ more) [] (bytes ++ behind)
 cut_both [] more bytes behind (is, nothing) too = subst (λ (front : List ℕ). IsCut more [] (front ++ behind)) (sym is) too

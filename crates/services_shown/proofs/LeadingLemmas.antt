@@ -1,4 +1,4 @@
--- What a service is told by the frames of a placed list leads it as its lane does.
+-- What a service gets by the frames of a placed list leads it as its lane does.
 use Rattle.std.proofs.Common.{◌≡◌, ℕ, zero, suc, ◌≤◌, refl, sym, ap, subst, ◌∙◌, take, arith}
 use Rattle.std.specs.List.{zip}
 use Rattle.std.proofs.lemmas.List.{take_all}
@@ -43,7 +43,7 @@ lane_told list placed service n =
     told_same list.rate (service_bytes list service (placed (Service service))) (lane_frame_bytes (list_lane list service (placed (Service service))))
     (λ frame. sym (lane_bytes_are list.rate (captions_in list service) (zip (chunks_in list service) (placed (Service service))) frame)) n
 
--- and in the first frames of a placed list it is told just those
+-- and in the first frames of a placed list it gets just those
 pub front_told : (list : Listing) (placed : Placement) (service k : ℕ) → IsFormed list → IsRuled list → AreServicesPlaced list placed → k ≤ list.frames
     → service_events service (take k (column_packets list.rate (columns_of list placed) 0 list.frames))
     ≡ told list.rate (lane_frame_bytes (list_lane list service (placed (Service service)))) k

@@ -64,7 +64,7 @@ take_all : {A : Type 0} (xs : List A) → take (length xs) xs ≡ xs
 take_all [] = refl
 take_all (x ∷ xs) = ap (λ l. x ∷ l) (take_all xs)
 
--- a service that is told the same is told as many bytes
+-- a service that gets the same gets as many bytes
 shares_same : (rate : Rate) (most : ℕ) (packets others : List Frame) (service frame : ℕ) → service_events service (take frame others) ≡ service_events service (take frame packets)
     → service_events service (take (suc frame) others) ≡ service_events service (take (suc frame) packets)
     → IsToldAtMost rate most packets service frame → IsToldAtMost rate most others service frame

@@ -1,4 +1,4 @@
--- The service blocks of a placed cue list are fit, and each service is told at most its share.
+-- The service blocks of a placed cue list are fit, and each service gets at most its share.
 use Rattle.std.proofs.Common.{◌≡◌, ◌∙◌, ◌++◌, ◌∷◌, ◌≤◌, ℕ, suc, List, Option, Some, None, length, map, ap, arith, refl, sym}
 use Rattle.std.specs.Prelude.{unwrap_or}
 use Rattle.line21_shown.specs.Listing.{IsFormed, Listing, share_of}

@@ -1,4 +1,4 @@
--- The services are told just the bytes that frames send them.
+-- The services get just the bytes that frames send them.
 use Rattle.std.proofs.Common.{◌≡◌, ◌∙◌, ℕ, zero, suc, ◌+◌, ◌≤◌, ◌==◌, if◌then◌else◌, Bool, true, false, List, [], ◌∷◌, ◌++◌, length, map, take, refl, sym, ap, arith, append_assoc, append-nil}
 use Rattle.std.proofs.lemmas.Grind.{flat_map-append}
 use Rattle.std.proofs.lemmas.List.{append_cancel_left, map-append}
@@ -24,7 +24,7 @@ use Rattle.services_shown.specs.ServicesCarried.{HasBlocks, Sent}
 use Rattle.services_shown.specs.Told.{CarryTheSame, ColumnsAreTold, LikeFramesSayAlike, sent_to, told, told_since}
 use Rattle.services_shown.proofs.ChannelLemmas.{channel_since, parts_from, parts_sent}
 
--- what is said of a service is told to it, and to no other
+-- what is said of a service gets to it, and to no other
 bytes_told : (service other : ℕ) (b : Bool) → (other == service) ≡ b → (bytes : List ℕ)
     → events_of service (map (part.Byte other) bytes) ≡ map Byte (if b then bytes else [])
 bytes_told service other true is [] = refl
@@ -77,7 +77,7 @@ module _ (rate : Rate) (columns : Columns) (has : (frame : ℕ) → HasBlocks co
       ap (λ ps. parts_sent (has frame).sent ++ ps) (parts_more (suc frame) n last (omega (arith, is)))
       ∙ sym (append_assoc (parts_sent (has frame).sent) (parts (suc frame) n) (parts_sent (has last).sent))
 
-  -- what is heard of so many frames from one on
+  -- what is heard of this many frames from one on
   heard_since : (since n : ℕ) → heard_parts (file_triplets (column_packets rate columns since n)) ≡ parts since n
   heard_since since n =
       let all = channel_since rate columns has (λ frame. packet_channel_is rate frame (columns frame) (packets_before columns frame)) since n in
@@ -98,7 +98,7 @@ module _ (rate : Rate) (columns : Columns) (has : (frame : ℕ) → HasBlocks co
       (sym (heard-append before triplets) ∙ ap heard_parts (sym all) ∙ heard_since since (suc n) ∙ parts_more since n last is
       ∙ ap (λ ps. ps ++ parts_sent (has last).sent) (sym (heard_since since n)))
 
-  -- the events of so many frames from one on, as a receiver has them that was reset before it
+  -- the events of this many frames from one on, as a receiver has them that was reset before it
   pub since_told : (service since n : ℕ)
       → service_events service (column_packets rate columns since n) ≡ told_since rate (λ frame. sent_to service (has frame).sent) since n
   since_told service since zero = refl

@@ -15,7 +15,7 @@ pub record HaveOtherPairs (columns others : Columns) : Type 0 where
   pub one : (frame : ℕ) → is_some (others frame).one ≡ is_some (columns frame).one
   pub two : (frame : ℕ) → is_some (others frame).two ≡ is_some (columns frame).two
 
--- their blocks are fit; each service is told the same, so it keeps to the same share, and shows the same windows
+-- their blocks are fit; each service gets the same, so it keeps to the same share, and shows the same windows
 pub record AreFitAlike (rate : Rate) (n : ℕ) (columns others : Columns) : Type 0 where
   pub fit : HasFitBlocks rate n others
   pub events : (service k : ℕ) → k ≤ n

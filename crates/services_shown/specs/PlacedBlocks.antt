@@ -8,7 +8,7 @@ use Rattle.services_shown.specs.PlacedServices.{AreServicesPlaced}
 use Rattle.services_shown.specs.Shares.{AreSharesKept}
 use Rattle.services_shown.specs.Sound.{HasFitBlocks}
 
--- they are fit, and each service is told at most the share that the list has of it
+-- they are fit, and each service gets at most the share that the list has of it
 pub record HasPlacedBlocks (list : Listing) (placed : Placement) : Type 0 where
   pub fit : HasFitBlocks list.rate list.frames (columns_of list placed)
   pub shares : AreSharesKept list.rate (share_in list) list.frames (column_packets list.rate (columns_of list placed) 0 list.frames)

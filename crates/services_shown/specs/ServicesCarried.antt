@@ -17,7 +17,7 @@ use Rattle.frame_carrier.specs.Carrying.{column_packets}
 abbrev pub AreWithin : ℕ → Columns → Type 0
 AreWithin room columns = (frame : ℕ) → length (columns frame).blocks.items ≤ room
 
--- blocks of bytes of services, one behind another
+-- blocks of bytes of services, one after another
 pub record Sent : Type 0 where
   pub service : ℕ
   pub bytes : List ℕ

@@ -16,7 +16,7 @@ use Rattle.services_shown.specs.Buffers.{BuffersNeverFill}
 abbrev pub AreDoubledIn : ℕ → Columns → Type 0
 AreDoubledIn n columns = (in_field : FieldNumber) → IsDoubled (first_pairs in_field columns n)
 
--- what holds of so many frames of columns at a rate: control pairs are doubled; their words are a words file of their packets, each
+-- what holds of this many frames of columns at a rate: control pairs are doubled; their words are a words file of their packets, each
 -- frame keeps to its room, and its service blocks to theirs; the packets carry a whole caption channel, of which no byte fills the
 -- buffer of a service
 pub record IsSoundFrames (rate : Rate) (n : ℕ) (columns : Columns) : Type 0 where

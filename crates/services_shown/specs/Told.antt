@@ -19,12 +19,12 @@ use Rattle.services_shown.specs.PlacedServices.{AreServicesPlaced}
 use Rattle.frame_carrier.specs.Carrying.{column_packets}
 use Rattle.services_shown.specs.ServicesCarried.{HasBlocks, Sent}
 
--- what a service is told in the first frames: in each a tick of the rate, and the bytes that it is sent there
+-- what a service gets in the first frames: in each a tick of the rate, and the bytes that it is sent there
 abbrev pub told : Rate → (ℕ → List ℕ) → ℕ → List Event
 told rate bytes zero = []
 told rate bytes (suc n) = told rate bytes n ++ (Tick rate ∷ map Byte (bytes n))
 
--- what it is told in so many frames from one on
+-- what it gets in this many frames from one on
 abbrev pub told_since : Rate → (ℕ → List ℕ) → ℕ → ℕ → List Event
 told_since rate bytes since zero = []
 told_since rate bytes since (suc n) = told_since rate bytes since n ++ (Tick rate ∷ map Byte (bytes (since + n)))
@@ -33,12 +33,12 @@ told_since rate bytes since (suc n) = told_since rate bytes since n ++ (Tick rat
 abbrev pub sent_to : ℕ → List Sent → List ℕ
 sent_to service sent = flat_map (λ one. if one.service == service then one.bytes else []) sent
 
--- in the first frames of columns with whole blocks each service is told its bytes in them
+-- in the first frames of columns with whole blocks each service gets its bytes in them
 abbrev pub ColumnsAreTold : Type 0
 ColumnsAreTold = (rate : Rate) (columns : Columns) (n : ℕ) (has : (frame : ℕ) → HasBlocks columns frame) (service k : ℕ) → k ≤ n
     → service_events service (take k (column_packets rate columns 0 n)) ≡ told rate (λ frame. sent_to service (has frame).sent) k
 
--- in the first frames of a placed list each service is told the bytes of its lane
+-- in the first frames of a placed list each service gets the bytes of its lane
 abbrev pub ServicesAreTold : Type 0
 ServicesAreTold = (list : Listing) (placed : Placement) → IsFormed list → IsRuled list → AreServicesPlaced list placed → (service k : ℕ) → k ≤ list.frames
     → service_events service (take k (column_packets list.rate (columns_of list placed) 0 list.frames))
@@ -62,7 +62,7 @@ pub record CarryTheSame (frames others : List Frame) : Type 0 where
   pub rates : map (λ frame. frame.rate) frames ≡ map (λ frame. frame.rate) others
   pub triplets : map packet_triplets frames ≡ map packet_triplets others
 
--- all services are told the same by both, and both fields have the same pairs
+-- all services get the same by both, and both fields have the same pairs
 pub record SayAlike (frames others : List Frame) : Type 0 where
   pub events : (service : ℕ) → service_events service frames ≡ service_events service others
   pub pairs : (in_field : FieldNumber) → received_pairs in_field frames ≡ received_pairs in_field others

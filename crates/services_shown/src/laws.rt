@@ -24,13 +24,13 @@ pub fn law_of_whole_programmes()
     ensures { ProgrammesAreWhole }
 {}
 
-/// In frames with whole service blocks each service is told its bytes in these blocks: in each frame a tick, then the bytes, in
+/// In frames with whole service blocks each service gets its bytes in these blocks: in each frame a tick, then the bytes, in
 /// order. There is no reset, since the frames' packets are numbered one after another.
 pub fn law_of_columns_told()
     ensures { ColumnsAreTold }
 {}
 
-/// In the frames of a placed list that keeps the rules each service is told the bytes of its lane, frame by frame.
+/// In the frames of a placed list that keeps the rules each service gets the bytes of its lane, frame by frame.
 pub fn law_of_services_told()
     ensures { ServicesAreTold }
 {}
@@ -41,7 +41,7 @@ pub fn law_of_silent_services()
     ensures unshared { HighAreUnshared }
 {}
 
-/// What services are told, and what pairs the fields have, rests on the rate and the triplets of each frame and on nothing else of its
+/// What services get, and what pairs the fields have, rests on the rate and the triplets of each frame and on nothing else of its
 /// packet: so captions say the same in packets of another origin.
 pub fn law_of_like_frames()
     ensures { LikeFramesSayAlike }

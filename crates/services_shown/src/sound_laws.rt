@@ -11,12 +11,12 @@ pub fn law_of_fit_frames()
     ensures { FitFramesAreSound }
 {}
 
-/// The service blocks of a placed cue list that keeps the rules are fit, and no service is told more than its share in a frame.
+/// The service blocks of a placed cue list that keeps the rules are fit, and no service gets more than its share in a frame.
 pub fn law_of_placed_blocks()
     ensures { PlacedBlocksAreFit }
 {}
 
-/// Columns with the service blocks of fit ones, and other pairs in the same slots, have fit blocks too; each service is told the same,
+/// Columns with the service blocks of fit ones, and other pairs in the same slots, have fit blocks too; each service gets the same,
 /// keeps to the same share, and shows the same windows.
 pub fn law_of_other_pairs()
     ensures { OtherPairsAreFit }

@@ -40,7 +40,7 @@ pub piece_added : (a b : Option (List ℕ)) (r : Put) (before after piece : List
 piece_added a b put.Done before after piece gathers = gathers
 piece_added a b put.Failed before after piece failed = puts_stop a b before piece failed
 
--- a long one, behind what was held
+-- a long one, after what was held
 pub piece_put : (a b c : Option (List ℕ)) (r : Put) (before after piece : List ℕ) → Flushes a b before after put.Done → Puts b c r piece → PutsPiece a c before after r piece
 piece_put a b c put.Done before after piece (flushed, none) next =
     (before ++ piece, Appends-trans a b c before piece flushed next, sym (ap (λ l. (before ++ piece) ++ l) none ∙ append-nil (before ++ piece)))
@@ -64,7 +64,7 @@ flushed : (b c : Option (List ℕ)) (held after : List ℕ) (r : Put) → Flushe
 flushed b c held after put.Done flushes = flushes.0
 flushed b c held after put.Failed flushes = flushes
 
--- a text that is begun behind what is gathered
+-- a text that is begun after what is gathered
 pub begun_written : (start : Option (List ℕ)) (all : List ℕ) (now : Page) → answer_of now.text ≡ put.Done → IsGathered start now.written (held_of now.text) all
     → HasWrittenText start now.faults all now
 begun_written start all now done way = record {
@@ -76,7 +76,7 @@ begun_written start all now done way = record {
 pub held_written : (now : Page) → answer_of now.text ≡ put.Done → HasWrittenText now.written now.faults (held_of now.text) now
 held_written now done = begun_written now.written (held_of now.text) now done (record { sent = []; appended = Appends-nil now.written; whole = refl })
 
--- nothing, and one text behind another
+-- nothing, and one text after another
 pub writes_none : (now : Page) → Writes now now []
 writes_none now start faults before has = written_same start faults before (before ++ []) now (sym (append-nil before)) has
 

@@ -22,7 +22,7 @@ pub record HasWrittenText (start : Option (List ℕ)) (faults : ℕ) (all : List
   pub bytes : GathersText start now.written (held_of now.text) all (answer_of now.text)
   pub cause : PutCause faults now.faults (answer_of now.text)
 
--- behind whatever was written a text more was
+-- after whatever was written a text more was
 abbrev pub Writes : Page → Page → List ℕ → Type 0
 Writes old new text = (start : Option (List ℕ)) (faults : ℕ) (before : List ℕ)
     → HasWrittenText start faults before old → HasWrittenText start faults (before ++ text) new

@@ -35,7 +35,7 @@ impl Gathered {
         }
     }
 
-    /// Adds a piece of at most `ROOM` bytes. What was held is put first where the piece doesn't fit behind it.
+    /// Adds a piece of at most `ROOM` bytes. What was held is put first where the piece doesn't fit after it.
     pub fn add<O: Sink>(&mut self, piece: &[u8], out: &mut O) -> Put
         requires { length piece.now ≤ ROOM }
         ensures bytes { Gathers (O.written out.old) (O.written out.new) (held_of self.old)
@@ -73,7 +73,7 @@ impl Gathered {
         }
     }
 
-    /// Begins a text that is written behind what is held.
+    /// Begins a text that is written after what is held.
     pub fn begin(&mut self)
         ensures held { held_of self.new ≡ held_of self.old }
         ensures answer { answer_of self.new ≡ put.Done }
@@ -112,7 +112,7 @@ impl Gathered {
         }
     }
 
-    // Adds a piece of any length: one that is longer than the room is put behind what is held.
+    // Adds a piece of any length: one that is longer than the room is put after what is held.
     fn put_piece<O: Sink>(&mut self, piece: &[u8], out: &mut O) -> Put
         ensures bytes { PutsPiece (O.written out.old) (O.written out.new) (held_of self.old)
             (held_of self.new) result piece.now }

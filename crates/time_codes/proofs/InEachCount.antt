@@ -14,7 +14,7 @@ use Rattle.time_codes.proofs.CountLemmas.{count_more}
 abbrev pub counted_place_in : Counting → TimeCode → ℕ
 counted_place_in count t = 60 * frames_a_second count * (60 * t.h + t.m) + frames_a_second count * t.s + t.f
 
--- so many for each minute before but every tenth, and up to as many of the minute itself
+-- this many for each minute before but every tenth, and up to as many of the minute itself
 abbrev pub left_out_in : Counting → ℕ → ℕ → ℕ
 left_out_in count minute rest =
     numbers_left_out count * (minute - (minute + 9) / 10) + cond (nat_eq (minute % 10) 0) 0 (cond (nat_lt rest (numbers_left_out count)) rest (numbers_left_out count))

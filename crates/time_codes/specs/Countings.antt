@@ -76,7 +76,7 @@ day_frames_in counting.F50 = 4320000
 day_frames_in counting.F60 = 5184000
 day_frames_in counting.F60Drop = 5178816
 
--- the frame of a time code that the day has, where so many minutes begin before its own
+-- the frame of a time code that the day has, where this many minutes begin before its own
 abbrev pub number_in : Counting → ℕ → ℕ → ℕ → ℕ
 number_in count minutes s f =
     60 * frames_a_second count * minutes + frames_a_second count * s + f - numbers_left_out count * (minutes - minutes / 10)

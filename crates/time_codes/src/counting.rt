@@ -133,7 +133,7 @@ impl Counting {
         t.h < 24 && t.m < 60 && t.s < 60 && t.f < self.frames_a_second() && !self.leaves_out(t)
     }
 
-    /// The frame of a time code that the day has, where so many minutes begin before its own.
+    /// The frame of a time code that the day has, where this many minutes begin before its own.
     pub(crate) fn number(self, minutes: u32, s: u8, f: u8) -> u32
         requires minutes { minutes < 1440 }
         requires seconds { s < 60 }

@@ -120,7 +120,7 @@ HasEnded list verifying first after reads then =
     IsSteady (ends first reads None 0) (ends after then None 0)
     × Stops (λ bytes text. HasJudgedSo list bytes text verifying) (IsWholeFile first) put.Done (ends first reads None 0) (ends after then None 0)
 
--- the frames of the whole input, so many
+-- the frames of the whole input, this many
 whole_of : (list : Listing) (verifying : Verifying) (first after : Option (List ℕ)) (reads then count : ℕ) → (ended : HasEnded list verifying first after reads then)
     → count ≡ verified_frames verifying.verifier
     → (frames : List Frame) × IsFileUnder caption_channel frames ended.1.judged × AreClean list frames × (count ≡ length frames)

@@ -29,7 +29,7 @@ impl Reason for Found {
 /// Words on their way through a verifier, up to the first finding. Nothing is put of them.
 #[derive(Drop)]
 pub struct Verifying {
-    /// Behind the words so far.
+    /// After the words so far.
     pub verifier: Verifier,
 }
 

@@ -20,7 +20,7 @@ use Rattle.windows_shown.proofs.EventLemmas.{acted_by, delay_shows}
 use Rattle.windows_shown.proofs.HeardLaneLemmas.{heard_lane}
 use Rattle.windows_shown.proofs.WindowLemmas.{empty_until, opening, screen_from}
 
--- one command for windows, and one behind another
+-- one command for windows, and one after another
 one_dsw : (windows : ℕ) (s : ScreenState) → acted_on (bytes_of_command (Dsw windows) ++ []) s ≡ acted_by (Dsw windows ∷ []) s
 one_dsw windows s = ap (λ (bytes : List ℕ). acted_on bytes s) (append-nil (bytes_of_command (Dsw windows))) ∙ dsw_acts windows s
 

@@ -67,18 +67,18 @@ abbrev pub all_edits : ℕ → ℕ → List CaptionLoad → Option WindowState �
 all_edits frame id [] w = w
 all_edits frame id (g ∷ gs) w = all_edits frame id gs (if id == g.caption.id then own_edits (in_frame frame) g w else w)
 
--- text of a caption: behind its DefineWindow, and before what shows the caption
+-- text of a caption: after its DefineWindow, and before what shows the caption
 pub record IsTextOf (g : CaptionLoad) (u : Command × ℕ) : Type 0 where
   pub text : is_text u.0 ≡ true
   pub behind : g.first ≤ u.1
   pub ended : u.1 < g.caption.starts
 
--- each command stands in no later frame than those behind it
+-- each command stands in no later frame than those after it
 abbrev pub AreRising : List (Command × ℕ) → Type 0
 AreRising [] = ⊤
 AreRising (u ∷ us) = AllByRecursion (λ (v : Command × ℕ). u.1 ≤ v.1) us × AreRising us
 
--- what loads a caption is in order: its window is defined, hidden, from its LOAD on, and text comes behind that
+-- what loads a caption is in order: its window is defined, hidden, from its LOAD on, and text comes after that
 pub record IsOrdered (g : CaptionLoad) : Type 0 where
   pub window : g.definition.id ≡ g.caption.id
   pub hidden : g.definition.visible ≡ false

@@ -31,7 +31,7 @@ use Rattle.windows_shown.proofs.EditLemmas.{all_frames}
 use Rattle.windows_shown.proofs.SeenLemmas.{IsSeen}
 use Rattle.windows_shown.proofs.WindowLemmas.{shown_whole}
 
--- each unit stands from its LOAD on, before what shows its caption, and in no later frame than those behind it
+-- each unit stands from its LOAD on, before what shows its caption, and in no later frame than those after it
 abbrev pub AreTimely : List ServiceChunk → List ℕ → Type 0
 AreTimely [] [] = ⊤
 AreTimely [] (f ∷ fs) = ⊥
@@ -55,7 +55,7 @@ unit_acts false command more s writable plain = refl
 abbrev AreTexts : List Command → Type 0
 AreTexts commands = AllByRecursion (λ (command : Command). is_text command ≡ true) commands
 
--- text of a caption from a frame on, with the frames that are left for the units behind it
+-- text of a caption from a frame on, with the frames that are left for the units after it
 record PlacedText (number : ℕ) (c : Caption) (commands : List Command) (rest : List ServiceChunk) (from : ℕ) (fs : List ℕ) : Type 0 where
   text : List (Command × ℕ)
   left : List ℕ

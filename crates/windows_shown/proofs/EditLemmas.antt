@@ -18,7 +18,7 @@ use Rattle.windows_shown.proofs.TextLemmas.{idle_edits}
 abbrev pub all_frames : ℕ → Bool
 all_frames f = true
 
--- nothing stands before its first frame, and before one behind all of it everything does
+-- nothing stands before its first frame, and before one after all of it everything does
 edits_early : (frame : ℕ) (us : List (Command × ℕ)) (w : Option WindowState) → AllByRecursion (λ (u : Command × ℕ). frame ≤ u.1) us → edits (before frame) us w ≡ w
 edits_early frame [] w all = refl
 edits_early frame (u ∷ us) w all =

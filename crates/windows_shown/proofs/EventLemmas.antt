@@ -13,7 +13,7 @@ use Rattle.dtvcc_author.proofs.LatestLemmas.{none_named}
 use Rattle.windows_shown.proofs.MemberLemmas.{delay_names}
 use Rattle.windows_shown.proofs.NamedLemmas.{named_is}
 
--- commands one behind another
+-- commands one after another
 abbrev pub acted_by : List Command → ScreenState → ScreenState
 acted_by [] s = s
 acted_by (command ∷ commands) s = acted_by commands (on_screen command s)

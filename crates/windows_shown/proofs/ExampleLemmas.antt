@@ -106,7 +106,7 @@ used_most from to (each ∷ placed) =
     at true = omega arith
     at false = omega arith
 
--- whether a unit may stand in a frame behind others, if all of them stood in one delay
+-- whether a unit may stand in a frame after others, if all of them stood in one delay
 abbrev is_allowed : ℕ → List Caption → List (ServiceChunk × ℕ) → ServiceChunk → ℕ → Bool
 is_allowed share cs before u f =
     list_all (λ (each : ServiceChunk × ℕ). nat_le each.1 f) before

@@ -28,7 +28,7 @@ use Rattle.windows_shown.specs.Soundness.{ArePlain, IsSoundLane}
 use Rattle.windows_shown.specs.Undelayed.{acted_on, opened, shows_bytes, undelayed}
 use Rattle.windows_shown.proofs.PlainLemmas.{AllPlain, later, later_fill, now, now_fill, releases, served_at}
 
--- bytes one behind another
+-- bytes one after another
 after_both : (s : Served) (bytes more : List ℕ) → served_after s (map Byte (bytes ++ more)) ≡ served_after (served_after s (map Byte bytes)) (map Byte more)
 after_both s bytes more = ap (served_after s) (map-append Byte bytes more) ∙ after_append s (map Byte bytes) (map Byte more)
 
@@ -120,7 +120,7 @@ begins_fill tenths clock screen = (
   (subst (λ (s : Served). fill tenths s.core ≤ 127) (sym (begun_one clock screen)) (let none : 0 ≤ 127 = omega arith in none), tt),
 )
 
--- DisplayWindows behind it, and the loads, are plain and whole
+-- DisplayWindows after it, and the loads, are plain and whole
 shows_plain : (windows : ℕ) (loads : List ℕ) → ArePlain loads → AllPlain (completions [] (0x89 ∷ windows ∷ loads))
 unfolding told_size spelled_command
 shows_plain windows loads are = (tt, (refl, are.plain))
@@ -129,7 +129,7 @@ shows_whole : (windows : ℕ) (loads : List ℕ) → ArePlain loads → front_fr
 unfolding told_size
 shows_whole windows loads are = are.whole
 
--- plain commands one behind another
+-- plain commands one after another
 plain_append : (said more : List (Option Command)) → AllPlain said → AllPlain more → AllPlain (said ++ more)
 plain_append [] more all too = too
 plain_append (first ∷ said) more all too = (all.0, plain_append said more all.1 too)
@@ -197,7 +197,7 @@ module _ (lane : Lane) (sound : IsSoundLane lane) where
     stands : Stands (suc frame)
     fills : AllFill 127 (served lane frame) (lane_frame_events lane frame)
 
-  -- in the frame, behind its tick, no delay is on
+  -- in the frame, after its tick, no delay is on
   record Ready (frame : ℕ) : Type 0 where
     clock : Clock
     screen : ScreenState

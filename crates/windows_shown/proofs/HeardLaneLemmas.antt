@@ -36,7 +36,7 @@ module _ (since : ℕ) (lane : Lane) (sound : IsSoundLane lane) where
   abbrev heard : Lane
   heard = heard_lane since lane
 
-  -- a delay that is heard starts behind the frames of which nothing is
+  -- a delay that is heard starts after the frames of which nothing is
   starts_there : (start : ℕ) (delay : Delay) → heard.delay start ≡ Some delay → (since ≤ start) × (lane.delay start ≡ Some delay)
   starts_there start delay is = at (nat_lt start since) refl
     where

@@ -1,4 +1,4 @@
--- What is heard of captions where nothing is of the frames before one, as behind a reset: of a caption whose DefineWindow stands
+-- What is heard of captions where nothing is of the frames before one, as after a reset: of a caption whose DefineWindow stands
 -- before that frame nothing, of another all. What stands in a later frame to load captions does as much: text of a caption whose
 -- window was defined before goes nowhere, and the window of another that is loading stays current.
 use Rattle.std.proofs.Common.{◌≡◌, ◌∙◌, ℕ, suc, ◌<◌, ◌≤◌, ◌==◌, nat_lt, inl, inr, Bool, true, false, if◌then◌else◌, List, [], ◌∷◌, Option, Some, None, refl, sym, ap, subst, arith}

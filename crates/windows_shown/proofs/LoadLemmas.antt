@@ -59,7 +59,7 @@ pub texts_of : (g : CaptionLoad) (us : List (Command × ℕ)) → AllByRecursion
 texts_of g [] all = tt
 texts_of g (u ∷ us) all = (all.0.text, texts_of g us all.1)
 
--- nothing stands in a frame behind all of it, or before its first
+-- nothing stands in a frame after all of it, or before its first
 none_behind : (frame : ℕ) (g h : CaptionLoad) → IsBefore g h → h.first < frame → is_at frame g ≡ false
 none_behind frame g h is less =
     let low = is.first in
@@ -108,7 +108,7 @@ pub record FrameLoads (frame : ℕ) (gs : List CaptionLoad) (s : ScreenState) : 
   pub windows : (i : ℕ) → (loads_act frame gs s).windows i ≡ all_edits frame i gs (s.windows i)
   pub current : IsCurrent (suc frame) gs (loads_act frame gs s)
 
--- the first caption of a list, behind a frame
+-- the first caption of a list, after a frame
 first_current : (frame : ℕ) (g : CaptionLoad) (gs : List CaptionLoad) (s : ScreenState) → AreInOrder (g ∷ gs)
     → LoadActs (g.first == frame) frame g.caption.id g.definition g.text s
     → (g.first < frame → Unfinished frame g.text → s.current ≡ Some g.caption.id)

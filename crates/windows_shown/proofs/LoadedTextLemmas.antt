@@ -27,7 +27,7 @@ hidden d attributes cells row col pen colors = record {
   colors = colors;
 }
 
--- commands behind commands
+-- commands after commands
 pub edited_all-append : (commands more : List Command) (w : WindowState) → edited_all (commands ++ more) w ≡ edited_all more (edited_all commands w)
 edited_all-append [] more w = refl
 edited_all-append (command ∷ commands) more w = edited_all-append commands more _
@@ -54,7 +54,7 @@ no_text : (pen : PenAttr) (colors : PenColors) (row col : ℕ) (cells : Cells) �
 no_text pen colors row col cells = fun_ext (λ r. fun_ext (λ c.
     let none : (r == row && (nat_le col c && nat_lt c (col + 0))) ≡ false = grind (arith, nat_tests) in rw none refl))
 
--- a character, and those behind it
+-- a character, and those after it
 next_text : (pen : PenAttr) (colors : PenColors) (row col ch : ℕ) (text : List ℕ) (cells : Cells)
     → with_text pen colors row (col + 1) text (with_window_cell cells row col (cell pen colors ch)) ≡ with_text pen colors row col (ch ∷ text) cells
 next_text pen colors row col ch text cells = fun_ext (λ r. fun_ext (λ c.
@@ -69,7 +69,7 @@ next_text pen colors row col ch text cells = fun_ext (λ r. fun_ext (λ c.
     (grind (arith, nat_tests), ap (λ n. cell pen colors (get_or (ch ∷ text) n 0x20)) (sym first)))
     (λ outside elsewhere. grind (arith, nat_tests))))
 
--- a character is written at the pen, which isn't behind the last column
+-- a character is written at the pen, which isn't past the last column
 character_on : (d : Definition) (attributes : WinAttr) (cells : Cells) (row col : ℕ) (pen : PenAttr) (colors : PenColors) (ch : ℕ) → col < d.cols
     → with_character (Some ch) (hidden d attributes cells row col pen colors)
     ≡ hidden d attributes (with_window_cell cells row col (cell pen colors ch)) row (col + 1) pen colors

@@ -51,7 +51,7 @@ runs_text coloured pen colors (run ∷ runs) =
     (refl, (refl, AreText-append own (character_commands run.text) (colors_text coloured colors run.colors) (characters_text run.text)))
     (runs_text coloured pen colors runs)
 
--- what stands behind the definition of a window
+-- what follows the definition of a window
 abbrev pub text_of : WinCue → List Run → List Command
 text_of w runs = attribute_commands w.attr ++ flat_map (run_commands (are_coloured runs) (pen_style w.ps).0 (pen_style w.ps).1) runs
 

@@ -15,7 +15,7 @@ use Rattle.windows_shown.specs.ServiceLanes.{Lane, spent}
 use Rattle.windows_shown.specs.Soundness.{ArePlain, IsSoundLane}
 use Rattle.windows_shown.proofs.PlainLemmas.{nothing_plain, plain_both}
 
--- what holds of no bytes, and of bytes one behind another, holds of the units of a frame together
+-- what holds of no bytes, and of bytes one after another, holds of the units of a frame together
 module _ (P : List ℕ → Type 0) (none : P []) (both : (bytes more : List ℕ) → P bytes → P more → P (bytes ++ more)) where
   pub loads_hold : (chunks : List ServiceChunk) (frames : List ℕ) (frame : ℕ) → All (λ (chunk : ServiceChunk). P chunk.unit) chunks
       → P (loads_at (zip chunks frames) frame)

@@ -25,7 +25,7 @@ AllPlain said = AllByRecursion IsPlainOrNone said
 pub nothing_plain : ArePlain []
 nothing_plain = record { plain = tt; whole = refl }
 
--- plain bytes one behind another, whatever was open before them
+-- plain bytes one after another, whatever was open before them
 plain_join : (open_bytes bytes more : List ℕ) → AllPlain (completions open_bytes bytes) → front_from open_after open_bytes bytes ≡ []
     → AllPlain (completions [] more) → AllPlain (completions open_bytes (bytes ++ more))
 plain_join open_bytes [] more all whole too = subst (λ (left : List ℕ). AllPlain (completions left more)) (sym whole) too

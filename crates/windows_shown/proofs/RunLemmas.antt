@@ -42,7 +42,7 @@ unowned : (own : Option PenColors) (style : PenColors) → is_some own ≡ false
 unowned None style none = refl
 unowned (Some colors) style none = cc
 
--- behind the commands of colours the pen has the run's: they are sent where some run has its own, and else the pen has those of the
+-- after the commands of colours the pen has the run's: they are sent where some run has its own, and else the pen has those of the
 -- style already
 colors_on : (coloured : Bool) (style : PenColors) (own : Option PenColors) (d : Definition) (attributes : WinAttr) (cells : Cells) (row col : ℕ)
     (pen : PenAttr) (colors : PenColors) → (coloured ≡ false → colors ≡ style) → (coloured ≡ false → is_some own ≡ false)

@@ -39,7 +39,7 @@ loading_hidden test g is =
     at false = refl
     at true = ap (λ (visible : Bool). if visible then Some (as_shown (defined g.definition None)) else None) is.hidden
 
--- what is seen of the window of an id at a frame, by the captions whose DefineWindow stands in a frame or behind it: from frame 0 on
+-- what is seen of the window of an id at a frame, by the captions whose DefineWindow stands in a frame or after it: from frame 0 on
 -- by all
 pub record IsSeen (since : ℕ) (gs : List CaptionLoad) (id frame : ℕ) (seen : Option ShownWindow) : Type 0 where
   pub has : (g : CaptionLoad) → Among g gs → g.caption.id ≡ id → g.caption.show ≤ frame → frame < g.caption.hide → since ≤ g.first
@@ -86,7 +86,7 @@ is_delaying since frame (g ∷ gs) =
 abbrev has_window : ℕ → Caption → Bool
 has_window frame c = nat_lt c.load frame && nat_lt frame (suc c.hide)
 
--- the same behind the frame's events
+-- the same after the frame's events
 abbrev keeps_window : ℕ → Caption → Bool
 keeps_window frame c = nat_lt c.load frame && nat_lt frame c.hide
 

@@ -36,7 +36,7 @@ same_both : (b : Bool) (w : Option WindowState) → w ≡ (if b then w else w)
 same_both true w = refl
 same_both false w = refl
 
--- a change behind another
+-- a change after another
 joined : (b : Bool) (f : Option WindowState → Option WindowState) (x y z : Option WindowState) → x ≡ (if b then y else z)
     → (if b then f x else x) ≡ (if b then f y else z)
 joined true f x y z is = ap f is
@@ -96,7 +96,7 @@ idle_edits frame (u ∷ us) w none = at (u.1 == frame) none (λ rest. idle_edits
     at true none rest = cc
     at false none rest = rest none
 
--- DefineWindow, where it stands in the frame, and text behind it
+-- DefineWindow, where it stands in the frame, and text after it
 pub record LoadActs (b : Bool) (frame id : ℕ) (d : Definition) (us : List (Command × ℕ)) (s : ScreenState) : Type 0 where
   pub windows : (i : ℕ) → (text_acts frame us (if b then with_definition d s else s)).windows i
       ≡ (if i == id then edits (in_frame frame) us (if b then Some (defined d (s.windows i)) else s.windows i) else s.windows i)

@@ -28,7 +28,7 @@ whole g = own_edits all_frames g None
 abbrev pub shown_whole : CaptionLoad → Option WindowState
 shown_whole g = option_map (with_visibility true) (whole g)
 
--- the screen behind the events of a frame that come before its delay, and behind the frame
+-- the screen after the events of a frame that come before its delay, and after the frame
 abbrev pub opening : ℕ → List CaptionLoad → ScreenState → ScreenState
 opening frame gs s = acted_by (windows_command Dsw (is_shown_at frame) (captions gs)) (acted_by (windows_command Dlw (is_hidden_at frame) (captions gs)) s)
 
@@ -52,7 +52,7 @@ pub record IsWindow (since : ℕ) (gs : List CaptionLoad) (id frame : ℕ) (w : 
   pub showing : (g : CaptionLoad) → Among g gs → g.caption.id ≡ id → g.caption.starts < frame → frame ≤ g.caption.hide → w ≡ if_heard since g (shown_whole g)
   pub none : ((g : CaptionLoad) → Among g gs → g.caption.id ≡ id → g.caption.load < frame → g.caption.hide < frame) → w ≡ None
 
--- the window behind the events of a frame that come before its delay, by the captions
+-- the window after the events of a frame that come before its delay, by the captions
 pub record IsOpened (since : ℕ) (gs : List CaptionLoad) (id frame : ℕ) (w : Option WindowState) : Type 0 where
   pub loading : (g : CaptionLoad) → Among g gs → g.caption.id ≡ id → g.caption.load < frame → frame ≤ g.caption.starts
       → (g.caption.starts ≡ frame → 0 < g.caption.tenths) → w ≡ if_heard since g (own_edits (before frame) g None)
@@ -65,7 +65,7 @@ module _ (rate : Rate) (frames : ℕ) (gs : List CaptionLoad) (kept : AreKept ra
   apart : (g h : CaptionLoad) (id : ℕ) → Among g gs → Among h gs → g.caption.id ≡ id → h.caption.id ≡ id → Order g h
   apart g h id in_g in_h is too = ordered rate frames gs g h kept in_g in_h (is ∙ sym too)
 
-  -- from behind its LOAD up to its HIDE, which is left out, no caption of a caption's window is hidden
+  -- from after its LOAD up to its HIDE, which is left out, no caption of a caption's window is hidden
   not_hidden : (id frame : ℕ) (g : CaptionLoad) → Among g gs → g.caption.id ≡ id → g.caption.load < frame → frame < g.caption.hide
       → names (is_hidden_at frame) (captions gs) id ≡ false
   not_hidden id frame g among window from to =
@@ -112,7 +112,7 @@ module _ (rate : Rate) (frames : ℕ) (gs : List CaptionLoad) (kept : AreKept ra
           let named = delayed_names frame gs id is in
           absurd (not_started id frame g named.load among named.among window named.window from to other (delay_says frame named.load.caption named.holds).1)
 
-  -- what shows a caption is sent at once, or behind its delay
+  -- what shows a caption is sent at once, or after its delay
   is_started : (id : ℕ) (g : CaptionLoad) → Among g gs → g.caption.id ≡ id
       → (names (is_shown_at g.caption.starts) (captions gs) id || delay_names (delayed_at g.caption.starts (captions gs)) id) ≡ true
   is_started id g among window = at g.caption.tenths refl
@@ -268,7 +268,7 @@ module _ (rate : Rate) (frames : ℕ) (gs : List CaptionLoad) (kept : AreKept ra
     window_next : IsWindow since gs id (suc frame) (all_edits frame id gs Started)
     window_next = record { loading = next_loading; showing = next_showing; none = next_none }
 
-    -- the same behind the events alone
+    -- the same after the events alone
     open_loading : (g : CaptionLoad) → Among g gs → g.caption.id ≡ id → g.caption.load < frame → frame ≤ g.caption.starts
         → (g.caption.starts ≡ frame → 0 < g.caption.tenths) → Opened ≡ if_heard since g (own_edits (before frame) g None)
     open_loading g among window from to late =

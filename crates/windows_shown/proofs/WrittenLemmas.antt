@@ -1,4 +1,4 @@
--- What is written of commands, one behind another: whole plain bytes, which do to a screen what the commands do.
+-- What is written of commands, one after another: whole plain bytes, which do to a screen what the commands do.
 use Rattle.std.proofs.Common.{◌≡◌, ℕ, zero, suc, ◌-◌, List, [], ◌∷◌, ◌++◌, Option, Some, None, length, true, refl, sym, ap, subst, ◌∙◌}
 use Rattle.std.specs.Prelude.{replicate}
 use Rattle.cc_base.specs.Steps.{front_from}
@@ -44,7 +44,7 @@ written_plain command is plain =
       whole = completes.ends;
     }
 
--- whole bytes act one behind another
+-- whole bytes act one after another
 acts_behind : (open_bytes bytes more : List ℕ) (s : ScreenState) → front_from open_after open_bytes bytes ≡ []
     → on_screen_all (completions open_bytes (bytes ++ more)) s ≡ acted_on more (on_screen_all (completions open_bytes bytes) s)
 acts_behind open_bytes [] more s whole = ap (λ (left : List ℕ). on_screen_all (completions left more) s) whole

@@ -1,5 +1,5 @@
 -- Between crates: the program's answer stands on none of these definitions.
--- A worked example: windows of a service, of which one is shown behind a delay, and one is loaded while that is on.
+-- A worked example: windows of a service, of which one is shown after a delay, and one is loaded while that is on.
 use Rattle.std.specs.Prelude.{ℕ, suc, Bool, List, [], ◌∷◌, Option, is_some}
 use Rattle.std.specs.Option.{option_and_then}
 use Rattle.cue_types.specs.Listing.{Listing}

@@ -4,7 +4,7 @@ use Rattle.std.specs.Prelude.{ℕ, ◌≤◌, List, [], ◌∷◌, ⊤}
 use Rattle.dtvcc_screen.specs.Cores.{fill}
 use Rattle.dtvcc_screen.specs.Meaning.{Event, Tick, Byte, Reset, Served, on_event}
 
--- no byte fills it beyond so many
+-- no byte fills it beyond this many
 abbrev pub AllFill : ℕ → Served → List Event → Type 0
 AllFill most s [] = ⊤
 AllFill most s (Tick rate ∷ events) = AllFill most (on_event (Tick rate) s) events

@@ -14,7 +14,7 @@ use Rattle.cue_types.specs.declared.cue.Cue.{Cue}
 use Rattle.frame_scheduler.specs.AuthoredServiceGrid.{cue_window}
 use Rattle.dtvcc_author.specs.WindowCommands.{commands_of}
 
--- what commands make of the current window, one behind another
+-- what commands make of the current window, one after another
 abbrev pub edited_all : List Command → WindowState → WindowState
 edited_all [] w = w
 edited_all (command ∷ commands) w = edited_all commands (edited_by command w)
@@ -32,7 +32,7 @@ seen_behind commands = shown (option_map (with_visibility true) (loaded_by comma
 abbrev pub IsLoadedAsAuthored : Cue → Type 0
 IsLoadedAsAuthored cue = seen_behind (commands_of cue) ≡ cue_window cue.kind cue.runs
 
--- commands that define a window, hidden, and behind that are text alone
+-- commands that define a window, hidden, and after that are text alone
 pub record IsLoad (d : Definition) (commands : List Command) : Type 0 where
   pub text : List Command
   pub split : commands ≡ Df d ∷ text

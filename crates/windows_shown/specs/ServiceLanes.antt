@@ -18,7 +18,7 @@ pub record Lane : Type 0 where
 abbrev pub lane_frame_bytes : Lane → ℕ → List ℕ
 lane_frame_bytes lane frame = lane.events frame ++ (delay_bytes (lane.delay frame) ++ lane.loads frame)
 
--- what the service is told in a frame, and as much of it as stands before a delay
+-- what the service gets in a frame, and as much of it as stands before a delay
 abbrev pub lane_frame_events : Lane → ℕ → List Event
 lane_frame_events lane frame = Tick lane.rate ∷ map Byte (lane_frame_bytes lane frame)
 
@@ -30,7 +30,7 @@ abbrev pub served : Lane → ℕ → Served
 served lane zero = start
 served lane (suc frame) = served_after (served lane frame) (lane_frame_events lane frame)
 
--- the bytes of the loads of so many frames from one on
+-- the bytes of the loads of this many frames from one on
 abbrev pub spent : Lane → ℕ → ℕ → ℕ
 spent lane from zero = 0
 spent lane from (suc count) = spent lane from count + length (lane.loads (from + count))

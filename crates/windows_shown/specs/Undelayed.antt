@@ -8,7 +8,7 @@ use Rattle.dtvcc_screen.specs.Laws.{on_screen_all}
 use Rattle.dtvcc_screen.specs.Screens.{ScreenState, empty_screen}
 use Rattle.windows_shown.specs.ServiceLanes.{Lane}
 
--- what whole plain bytes do to a screen, command behind command
+-- what whole plain bytes do to a screen, command after command
 abbrev pub acted_on : List ℕ → ScreenState → ScreenState
 acted_on bytes s = on_screen_all (completions [] bytes) s
 
@@ -23,6 +23,6 @@ undelayed lane zero = empty_screen
 undelayed lane (suc frame) =
     acted_on (lane.loads frame) (acted_on (shows_bytes (lane.delay frame)) (acted_on (lane.events frame) (undelayed lane frame)))
 
--- the screen behind the events of a frame that come before its delay
+-- the screen after the events of a frame that come before its delay
 abbrev pub opened : Lane → ℕ → ScreenState
 opened lane frame = acted_on (lane.events frame) (undelayed lane frame)

@@ -30,7 +30,7 @@ pub fn windows_with_a_delay_are_placed()
 {}
 
 /// What is sent of it, and what is seen, worked out by hand: each window from its SHOW up to its HIDE and in no other frame,
-/// behind its delay too, and one that was loaded while the delay was on.
+/// after its delay too, and one that was loaded while the delay was on.
 pub fn windows_with_a_delay_are_seen()
     ensures shows { lane_frame_bytes (list_lane delayed_list 1 delayed_frames) 4
         ≡ 0x89 ∷ 0x01 ∷ 0x92 ∷ 0 ∷ 0 ∷ 0x90 ∷ 0x05 ∷ 0 ∷ [] }

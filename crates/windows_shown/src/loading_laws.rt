@@ -16,7 +16,7 @@ ghost use Rattle.dtvcc_author.specs.WindowCommands.{commands_of, definition_of, 
 ghost use Rattle.windows_shown.specs.LoadingExamples.{nth_loaded};
 ghost use Rattle.windows_shown.specs.Loading.{IsLoad, IsLoadedAsAuthored, loaded_by};
 
-/// The commands of each cue of a list that keeps the rules make the window that the list authors: behind them it is seen as
+/// The commands of each cue of a list that keeps the rules make the window that the list authors: after them it is seen as
 /// authored once it is shown. A line 21 cue has no commands and no window.
 pub fn windows_are_loaded_as_authored()
     ensures { (list : Listing) → IsFormed list → IsRuled list

@@ -60,14 +60,14 @@ nothing_decoded reading shown received is grids none =
     nothing_judged changes_of _ [] reading received
     (subst (λ (m : Changes). LookAlike (last_shown m.shown) (received_screens [])) (sym is) (nothing_shown (last_shown shown) grids none)) refl
 
--- bytes that bring so many frames, whose text this is
+-- bytes that bring this many frames, whose text this is
 pub record AreCounted (text_of : List Frame → List ℕ) (count : ℕ) (bytes text : List ℕ) : Type 0 where
   pub frames : List Frame
   pub frames_are : AreFramesOf caption_channel frames bytes
   pub count_is : count ≡ length frames
   pub text_is : text ≡ text_of frames
 
--- a reading was ended by the end of a words file of so many frames
+-- a reading was ended by the end of a words file of this many frames
 abbrev pub HasEndedCounted : (List Frame → List ℕ) → ℕ → Ends → Ends → Type 0
 HasEndedCounted text_of count old new = IsSteady old new × Stops (AreCounted text_of count) (IsWholeFile old.left) put.Done old new
 
@@ -94,7 +94,7 @@ ended_counted text_of Stands reading count old new (steady, stops) counts =
       },
     )
 
--- the number of frames was put behind their changes, or a front of it
+-- the number of frames was put after their changes, or a front of it
 count_put : (changes : List Frame → List ℕ) (first left start now then : Option (List ℕ)) (reads later writes still last count : ℕ) (answer : Put)
     → HasEndedCounted changes count (ends first reads start writes) (ends left later now still) → Puts now then answer (frames_line count)
     → Stops (IsTextOf (counted changes)) (IsWholeFile first) answer (ends first reads start writes) (ends left later then last)

@@ -41,7 +41,7 @@ ended_written old new ended packet frame is writes =
     subst (λ e. Writes old new (flat_map (packet_line frame) (listed e))) (sym is)
     (writes_same old new (packet_line frame packet) (packet_line frame packet ++ []) (sym (append-nil (packet_line frame packet))) writes)
 
--- the packets of codes behind others, in two parts
+-- the packets of codes after others, in two parts
 behind_append : (before codes others : List Code) → packets_behind before (codes ++ others) ≡ packets_behind before codes ++ packets_behind (before ++ codes) others
 behind_append before [] others = ap (λ b. packets_behind b others) (sym (append-nil before))
 behind_append before (code ∷ codes) others =

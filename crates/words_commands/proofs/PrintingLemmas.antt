@@ -24,7 +24,7 @@ use Rattle.grid_print.proofs.ScreenLemmas.{changes_alike, no_changes}
 use Rattle.words_commands.specs.Screens.{changes_of, next_changes, show_output, texts_behind}
 use Rattle.words_files.specs.Received.{received_grids}
 
--- the texts of frames behind others, with one frame more
+-- the texts of frames after others, with one frame more
 texts-snoc : (text_of : List Frame → Frame → List ℕ) (before frames : List Frame) (next : Frame)
     → texts_behind text_of before (frames ++ next ∷ []) ≡ texts_behind text_of before frames ++ text_of (before ++ frames) next
 texts-snoc text_of before [] next = append-nil (text_of before next) ∙ ap (λ behind. text_of behind next) (sym (append-nil before))
@@ -71,7 +71,7 @@ both_nil : (front behind : List ℕ) → front ++ behind ≡ [] → (front ≡ [
 both_nil [] behind is = (refl, is)
 both_nil (byte ∷ front) behind is = cc
 
--- a text was put at once, behind a text of which nothing is held
+-- a text was put at once, after a text of which nothing is held
 pub put_at_once : (a b c : Option (List ℕ)) (r : Put) (held text all : List ℕ) → IsGathered a b held all → all ≡ [] → Puts b c r text → GathersText a c held text r
 put_at_once a b c put.Done held text all way none next =
     let (sent_none, held_none) = both_nil way.sent held (way.whole ∙ none) in

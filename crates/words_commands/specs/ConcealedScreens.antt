@@ -9,7 +9,7 @@ use Rattle.grid_print.specs.GridTexts.{changes_text}
 use Rattle.grid_print.specs.Screens.{Screens, screens_of}
 use Rattle.words_commands.specs.Screens.{counted, texts_behind}
 
--- the screens that a concealing receiver shows behind frames
+-- the screens that a concealing receiver shows after frames
 abbrev pub concealed_screens : List Frame → Screens
 concealed_screens frames = screens_of (concealed_grids frames) (concealed_windows frames)
 
@@ -18,7 +18,7 @@ abbrev pub lost_line : ℕ → ℕ → List ℕ
 lost_line missing frame =
     if missing == 0 then [] else text (codes "lost " ∷ decimal missing ∷ codes " before " ∷ decimal frame ∷ codes "\n" ∷ [])
 
--- of a frame behind others the line of those missing before it, and the changed screens, both with its number
+-- of a frame after others the line of those missing before it, and the changed screens, both with its number
 abbrev pub next_concealed : List Frame → Frame → List ℕ
 next_concealed before frame =
     let frames = before ++ frame ∷ [] in

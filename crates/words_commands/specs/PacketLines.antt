@@ -19,11 +19,11 @@ abbrev pub packet_line : ℕ → XdsPacket → List ℕ
 packet_line frame packet =
     text (codes "frame " ∷ decimal frame ∷ codes " class " ∷ decimal packet.class ∷ codes " type " ∷ decimal packet.kind ∷ codes " " ∷ packet.text ∷ codes "\n" ∷ [])
 
--- the packets that end in pairs of field 2, behind those before
+-- the packets that end in pairs of field 2, after those before
 abbrev pub ended_in : List Pair → List Pair → List XdsPacket
 ended_in before pairs = packets_behind (map code_of before) (map code_of pairs)
 
--- the packets that end in a frame, behind others
+-- the packets that end in a frame, after others
 abbrev pub frame_packets : List Frame → Frame → List XdsPacket
 frame_packets before frame = ended_in (received_pairs Two before) (field_pairs Two (packet_triplets frame))
 
@@ -39,7 +39,7 @@ packet_lines frames = texts_behind next_packets [] frames
 abbrev pub xds_show_output : List Frame → List ℕ
 xds_show_output frames = counted packet_lines frames
 
--- the packets of frames behind others, frame by frame
+-- the packets of frames after others, frame by frame
 abbrev pub packets_in : List Frame → List Frame → List XdsPacket
 packets_in before [] = []
 packets_in before (frame ∷ frames) = frame_packets before frame ++ packets_in (before ++ frame ∷ []) frames

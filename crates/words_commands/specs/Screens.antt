@@ -7,7 +7,7 @@ use Rattle.grid_print.specs.GridTexts.{all_text, changes_text}
 use Rattle.grid_print.specs.Screens.{received_screens}
 use Rattle.cc_base.specs.Texts.{text}
 
--- of frames that come behind others, the text that stands for each behind those before it
+-- of frames that follow others, the text that stands for each after those before it
 abbrev pub texts_behind : (List Frame → Frame → List ℕ) → List Frame → List Frame → List ℕ
 texts_behind text_of before [] = []
 texts_behind text_of before (frame ∷ frames) = text_of before frame ++ texts_behind text_of (before ++ frame ∷ []) frames

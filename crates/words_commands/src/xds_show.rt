@@ -11,7 +11,7 @@ use std::alloc::Global;
 use words_reading::{Frames, read_words};
 use xds_packets::XdsReader;
 
-/// Reads a words file, and puts the packets of extended data that end in each frame, and behind the last one the number of frames.
+/// Reads a words file, and puts the packets of extended data that end in each frame, and after the last one the number of frames.
 pub fn run_xds_show<M: Source, O: Sink>(alloc: Global, input: &mut M, out: &mut O) -> Status
     ensures { RealisesLeaving (ChangesVerdict packet_lines)
         (ends (M.left input.old) (M.faults input.old) (O.written out.old) (O.faults out.old))

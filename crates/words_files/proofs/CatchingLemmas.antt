@@ -89,7 +89,7 @@ handed-packets frames =
     ap (λ (f : List (List CdpPart)). flat_map (λ ps. ps) f) (reverse-reverse (map packet_parts frames))
     ∙ flat_map-map (λ ps. ps) packet_parts frames
 
--- the layers above take parts behind frames
+-- the layers above take parts after frames
 pub accepted_behind : (v : Verdict CdpPart) (frames : List (List CdpPart)) (above parts : List CdpPart) → AreAccepted (verdict_behind v frames) above parts
     → AreAccepted v (handed frames ++ above) parts
 accepted_behind v frames above [] all = tt
@@ -103,7 +103,7 @@ behind_accepted v frames above [] all = tt
 behind_accepted v frames above (p ∷ parts) (is, all) =
     (is, behind_accepted v frames (above ++ p ∷ []) parts (subst (λ ps. AreAccepted v ps parts) (append_assoc (handed frames) above (p ∷ [])) all))
 
--- no packet of captions is open, behind these frames
+-- no packet of captions is open, after these frames
 abbrev pub idle : List (List CdpPart) → Caught
 idle frames = record { open_caption = None; frames = frames; refused = None }
 

@@ -59,7 +59,7 @@ length-is size is =
     let (one, two) = both_true (nat_le 11 size) (not (size == 12)) is in
     (grind (arith, nat_tests), λ e. grind (arith, nat_tests))
 
--- what begins behind frames, by whether the packet is one of captions, and by whether it can have its length
+-- what begins after frames, by whether the packet is one of captions, and by whether it can have its length
 abbrev pub begun_by : List (List CdpPart) → ℕ → Bool → Bool → Caught
 begun_by frames size captions fits =
     if captions
@@ -100,7 +100,7 @@ foreign_caught v frames p other =
     ∙ front_from-append (caught_after v) (idle frames) (map part.User p.user) (part.End ∷ [])
     ∙ ap (λ (c : Caught). front_from (caught_after v) c (part.End ∷ [])) (foreign_users v frames p.user)
 
--- the parts behind its begin
+-- the parts after its begin
 caption_body : (v : Verdict CdpPart) (frames : List (List CdpPart)) (size : ℕ) (user : List ℕ) → AllRead (cdp_syntax size) (lows user)
     → AreAccepted (verdict_behind v frames) [] (parts_of (cdp_syntax size) (lows user))
     → front_from (caught_after v) (opened frames (open_of size [] [])) (map part.User user ++ part.End ∷ []) ≡ idle (parts_of (cdp_syntax size) (lows user) ∷ frames)

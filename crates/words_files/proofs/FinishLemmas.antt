@@ -155,7 +155,7 @@ caption_finishes v takes before all first second third did sdid count user body 
     (caption packet [] go.packet [] is carries none)
     (subst (AreAccepted v (handed before)) parts (AreAccepted-append v (handed before) (parts_of (cdp_syntax size) (lows user)) rest accepted filled))
 
--- a user word behind identifiers passes there
+-- a user word after identifiers passes there
 either_or_not : (b c : Bool) → (c ≡ true → b ≡ true) → (b || not c) ≡ true
 either_or_not true c follows = refl
 either_or_not false true follows = follows refl

@@ -1,4 +1,4 @@
--- The frames of a words file: the bytes have one list of them, and files behind one another are a file.
+-- The frames of a words file: the bytes have one list of them, and files after one another are a file.
 use Rattle.std.proofs.Common.{◌≡◌, ℕ, List, [], ◌++◌, refl, subst}
 use Rattle.anc_words.specs.Packets.{AncillaryPacket, user_bytes}
 use Rattle.anc_words.proofs.WordsFileLemmas.{IsWordsFile-append, IsWordsFile-unique}
@@ -22,7 +22,7 @@ one_list frames others bytes is other =
     let same = IsWordsFile-unique is.packets other.packets bytes is.file other.file in
     carry_once other.packets frames others (subst (λ packets. CarryFrames packets frames) same is.carried) other.carried
 
--- packets behind packets carry frames behind frames
+-- packets after packets carry frames after frames
 pub carry-append : (packets more : List AncillaryPacket) (frames others : List Frame) → CarryFrames packets frames → CarryFrames more others
     → CarryFrames (packets ++ more) (frames ++ others)
 carry-append _ more _ others none rest = rest
@@ -31,7 +31,7 @@ carry-append _ more _ others (caption packet packets frame frames is carries beh
 carry-append _ more _ others (foreign packet packets frames isnt behind) rest =
     foreign packet (packets ++ more) (frames ++ others) isnt (carry-append packets more frames others behind rest)
 
--- a file behind a file is a file
+-- a file after a file is a file
 pub joined : (frames others : List Frame) (bytes more : List ℕ) → IsFileOf frames bytes → IsFileOf others more → IsFileOf (frames ++ others) (bytes ++ more)
 joined frames others bytes more is other = record {
   packets = is.packets ++ other.packets;

@@ -46,7 +46,7 @@ first_empty : (front rest : List ℕ) → front ++ rest ≡ [] → front ≡ []
 first_empty [] rest empty = refl
 first_empty (b ∷ front) rest empty = absurd cc
 
--- a file at the front of a file is its first packets, and what is behind it is a file of the others
+-- a file at the front of a file is its first packets, and what is after it is a file of the others
 pub record Behind (packets others : List AncillaryPacket) (more : List ℕ) : Type 0 where
   pub rest : List AncillaryPacket
   pub spelled : others ≡ packets ++ rest

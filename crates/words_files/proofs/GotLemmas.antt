@@ -52,7 +52,7 @@ tested : (test : Bool) (step : Step WordPart) (why : Why) (words : List ℕ) →
 tested true step why words is = is
 tested false step why words is = inl tt
 
--- a word behind the count
+-- a word after the count
 body_ends : (test coded same : Bool) (first second third did sdid count word : ℕ) (user : List ℕ)
     → Ends (if test then (if coded then One (part.User word) else Refuse why.WordParity) else if same then One part.End else Refuse why.AncSum)
     (if test then first ∷ second ∷ third ∷ did ∷ sdid ∷ count ∷ (user ++ word ∷ []) else [])
@@ -179,7 +179,7 @@ got_same v bytes byte got no_file same = record {
   caught = same ∙ got.caught;
 }
 
--- bytes behind a refused word bring no frame
+-- bytes after a refused word bring no frame
 refused_same : (v : Verdict CdpPart) (bytes more : List ℕ) (refusal : Refusal) → refusal_of v bytes ≡ Some refusal
     → (caught_in v (bytes ++ more)).frames ≡ (caught_in v bytes).frames
 refused_same v bytes more refusal some =

@@ -103,7 +103,7 @@ last_of p (q ∷ packets) bytes is =
       is_packet = last.is_packet;
     }
 
--- the frames of packets, and those of packets behind them
+-- the frames of packets, and those of packets after them
 pub record Carries (packets rest : List AncillaryPacket) (frames : List Frame) : Type 0 where
   pub first : List Frame
   pub behind : List Frame
@@ -130,7 +130,7 @@ past_last before more front (b ∷ own) q few past packets is is_packet =
     let any = past.any in
     ends_no_sooner before past.some packets any (omega (arith, e, long, few)) (subst (IsWordsFile packets) past.longer is)
 
--- a list behind the same front
+-- a list after the same front
 drop_front : (front xs ys : List AncillaryPacket) → front ++ xs ≡ front ++ ys → xs ≡ ys
 drop_front [] xs ys same = same
 drop_front (p ∷ front) xs ys same = drop_front front xs ys cc

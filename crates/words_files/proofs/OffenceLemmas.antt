@@ -82,7 +82,7 @@ last_high-whole [] whole = refl
 last_high-whole (high ∷ []) whole = absurd (omega (arith, whole))
 last_high-whole (high ∷ low ∷ bytes) whole = last_high-whole bytes (omega (arith, whole))
 
--- what is open behind them
+-- what is open after them
 abbrev at_words : List ℕ → Open
 at_words words = record { high = None; words = words }
 
@@ -125,7 +125,7 @@ high_read v before high rest whole =
     ∙ ap (λ (h : Handed WordPart). (reading judge_of (caption_verdict v) (place_by 2) (before ++ high ∷ []) (parts_of anc_syntax before ++ h.parts) rest).refusal) nothing
     ∙ ap (λ ps. (reading judge_of (caption_verdict v) (place_by 2) (before ++ high ∷ []) ps rest).refusal) (append-nil (parts_of anc_syntax before))
 
--- so a single byte behind whole words isn't refused
+-- so a single byte after whole words isn't refused
 pub high_unrefused : (v : Verdict CdpPart) (before : List ℕ) (high : ℕ) → AreWholeWords before → refusal_of v before ≡ None → refusal_of v (before ++ high ∷ []) ≡ None
 high_unrefused v before high whole none = read-more v before (high ∷ []) none ∙ high_read v before high [] whole
 
@@ -140,7 +140,7 @@ open-low : (before : List ℕ) (high : ℕ) → AreWholeWords before → open_be
 open-low before high whole =
     front_from-append open_after nothing_open before (high ∷ []) ∙ ap (λ (o : Open). open_after o high) (open-whole before whole)
 
--- a word behind unrefused words is refused for its reason, at their number
+-- a word after unrefused words is refused for its reason, at their number
 pub word_read : (v : Verdict CdpPart) (before : List ℕ) (high low : ℕ) → AreWholeWords before → refusal_of v before ≡ None
     → refusal_of v (before ++ high ∷ low ∷ []) ≡ refused_at (length before % 2 ^ 64) (reason_of v before (256 * high + low))
 word_read v before high low whole none =
@@ -204,7 +204,7 @@ first-from v before (high ∷ low ∷ rest) refusal whole none some =
       | Some why ↦ λ reason. first-here v before high low rest refusal why whole none reason some
     ] in cases _ refl
 
--- no file goes on with a word that is refused
+-- no file can continue with a word that is refused
 nowhere : (v : Verdict CdpPart) (before : List ℕ) (high low : ℕ) (why : Why) → AreWholeWords before → refusal_of v before ≡ None
     → reason_of v before (256 * high + low) ≡ Some why → Begins (layers_of v) (before ++ high ∷ low ∷ []) → ⊥
 nowhere v before high low why whole none reason begins =
@@ -227,7 +227,7 @@ begins_under_never : (v : Verdict CdpPart) (bytes : List ℕ) → Begins (layers
 begins_under_never v bytes begins =
     record { more = begins.more; frames = begins.frames; is_file = file_under_never begins.frames (bytes ++ begins.more) begins.is_file.file }
 
--- the reason of a word that is refused is that of whatever bytes go on with it
+-- the reason of a word that is refused is that of whatever bytes continue with it
 reason_stays : (v : Verdict CdpPart) (before : List ℕ) (high low : ℕ) (more : List ℕ) (why : Why) → AreWholeWords before → refusal_of v before ≡ None
     → reason_of v before (256 * high + low) ≡ Some why → why_of (refusal_of v (before ++ high ∷ low ∷ more)) ≡ Some why
 reason_stays v before high low more why whole none reason =
@@ -418,7 +418,7 @@ unrefused_is_unoffending v takes bytes are none =
       begins = goes_on v takes cut.words words_are cut.whole (refusal-before v cut.words cut.half (ap (refusal_of v) (sym cut.spelled) ∙ none));
     }
 
--- a single byte or none is never refused behind whole words
+-- a single byte or none is never refused after whole words
 half_unrefused : (v : Verdict CdpPart) (words half : List ℕ) → AreWholeWords words → length half ≤ 1 → refusal_of v words ≡ None → refusal_of v (words ++ half) ≡ None
 half_unrefused v words [] whole single none = ap (refusal_of v) (append-nil words) ∙ none
 half_unrefused v words (high ∷ []) whole single none = high_unrefused v words high whole none

@@ -1,4 +1,4 @@
--- The words that are open behind bytes are those that the reader keeps.
+-- The words that are open after bytes are those that the reader keeps.
 use Rattle.std.proofs.Common.{◌≡◌, ℕ, ◌%◌, ◌<◌, ◌≤◌, List, [], ◌∷◌, ◌++◌, length, ap, sym, subst, ◌∙◌, append_assoc, arith, length-append}
 use Rattle.std.specs.List.{All}
 use Rattle.cc_base.specs.Steps.{front_from}
@@ -26,7 +26,7 @@ begun_none words begun p front rest spelled is =
     let many : is.count % 256 ≡ length p.user = is.has_count.low_bits in
     omega (arith, few, many, length-append (p.user ++ is.checksum ∷ []) rest, length-append p.user (is.checksum ∷ []))
 
--- behind whole words none of which is refused
+-- after whole words none of which is refused
 pub open_exists : (bytes : List ℕ) → All (λ byte. byte < 256) bytes → AllRead anc_syntax bytes → AreWholeWords bytes
     → AreOpenBehind (open_behind anc_syntax bytes).words bytes
 open_exists bytes are read whole =

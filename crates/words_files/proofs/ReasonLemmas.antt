@@ -86,7 +86,7 @@ peel verdict above words word reason goal taken refused is =
           refused (same ∙ cc)
     ] in cases _ refl
 
--- behind words where no part ends
+-- after words where no part ends
 plain : (verdict : Verdict WordPart) (above : List WordPart) (words : List ℕ) (word : ℕ) (t : Bool) (fails reason : Why)
     → (let s : Step WordPart = if t then Nothing else Refuse fails in judge_ten_bits words word ≡ s)
     → (hand verdict above (judge_word words word)).why ≡ Some reason → OffendsFor words word reason
@@ -110,7 +110,7 @@ five_parts a b c d e =
     ∙ ap (λ ps. ps ++ parts_from word_syntax (a ∷ b ∷ c ∷ d ∷ []) (e ∷ [])) (no_parts (nat_lt d 0x400) (is_eight_bit d) why.WordParity)
     ∙ ap (λ ps. ps ++ []) (no_parts (nat_lt e 0x400) (is_eight_bit e) why.WordParity)
 
--- what a part is refused for, behind others
+-- what a part is refused for, after others
 part_refused : (v : Verdict CdpPart) (above : List WordPart) (state : Caught) (p : WordPart) (reason : Why) → caught_of v above ≡ state
     → caption_verdict v above p ≡ Some reason → (caught_after v state p).refused ≡ Some reason
 part_refused v above state p reason same is =
@@ -221,7 +221,7 @@ count_stands v frames above a b c did sdid state word reason is =
           subst (OffendsFor words word) same (as_length (captions-is (did % 256) (sdid % 256) captions) (IsEightBit-passed word passes) none)
     ]) here is
 
--- behind the words of an open packet
+-- after the words of an open packet
 pub reason_stands : (v : Verdict CdpPart) → RefusesNone v → (frames : List (List CdpPart)) (above : List WordPart) (words : List ℕ) → IsBegun words
     → caught_of v above ≡ front_from (caught_after v) (idle frames) (parts_from word_syntax [] words) → (caught_of v above).refused ≡ None
     → (word : ℕ) (reason : Why) → (hand (caption_verdict v) above (judge_word words word)).why ≡ Some reason → OffendsFor words word reason
@@ -270,7 +270,7 @@ behind_of v before none =
       unrefused = kept_all;
     }
 
--- behind bytes none of whose words is refused
+-- after bytes none of whose words is refused
 pub reason_offends : (v : Verdict CdpPart) → RefusesNone v → (before : List ℕ) (word : ℕ) (reason : Why) → refusal_of v before ≡ None
     → reason_of v before word ≡ Some reason → OffendsFor (open_behind anc_syntax before).words word reason
 reason_offends v quiet before word reason none is =
@@ -357,7 +357,7 @@ offends_for_one words word _ _ (as_byte reason size bytes carries can eight nowh
     StandsAt-one size bytes reason other can stands (subst (λ n. StandsAt n bytes other) sizes (subst (λ bs. StandsAt long bs other) same at))
 
 -- and the other way round: a word that offends by the words of its packet is refused for this reason, whatever the layers above say.
--- A part is refused behind others
+-- A part is refused after others
 part_said : (v : Verdict CdpPart) (above : List WordPart) (state : Caught) (p : WordPart) (reason : Why) → caught_of v above ≡ state
     → (caught_after v state p).refused ≡ Some reason → caption_verdict v above p ≡ Some reason
 part_said v above state p reason same is =
@@ -460,7 +460,7 @@ body_given v frames above (a ∷ b ∷ c ∷ did ∷ sdid ∷ count ∷ user) be
     ∙ part_said v above (opened frames (open_of long read_bytes parts)) (part.User word) reason opens
     (user_given v frames long read_bytes parts word reason refused)
 
--- behind the words of an open packet
+-- after the words of an open packet
 stands_given : (v : Verdict CdpPart) (frames : List (List CdpPart)) (above : List WordPart) (words : List ℕ) → IsBegun words
     → caught_of v above ≡ front_from (caught_after v) (idle frames) (parts_from word_syntax [] words) → (caught_of v above).refused ≡ None
     → (word : ℕ) (reason : Why) → OffendsFor words word reason → (hand (caption_verdict v) above (judge_word words word)).why ≡ Some reason
@@ -469,7 +469,7 @@ stands_given v frames above words begun state none word _ (as_length next is no_
 stands_given v frames above words begun state none word _ (as_byte reason size bytes carries can is nowhere stands) =
     body_given v frames above words begun state none word size bytes reason carries can is nowhere stands
 
--- behind bytes none of whose words is refused
+-- after bytes none of whose words is refused
 pub offends_given : (v : Verdict CdpPart) (before : List ℕ) (word : ℕ) (reason : Why) → refusal_of v before ≡ None
     → OffendsFor (open_behind anc_syntax before).words word reason → reason_of v before word ≡ Some reason
 offends_given v before word reason none offends =

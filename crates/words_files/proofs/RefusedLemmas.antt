@@ -37,7 +37,7 @@ refuses-append v above [] more reason is = absurd is
 refuses-append v above (p ∷ parts) more reason (inl here) = inl here
 refuses-append v above (p ∷ parts) more reason (inr (none, rest)) = inr (none, refuses-append v (above ++ p ∷ []) parts more reason rest)
 
--- and it stands behind parts that are taken
+-- and it stands after parts that are taken
 refuses-behind : {P : Type 0} (v : Verdict P) (above parts more : List P) (reason : Why) → AreAccepted v above parts → RefusesFor v (above ++ parts) more reason
     → RefusesFor v above (parts ++ more) reason
 refuses-behind v above [] more reason all rest = subst (λ ps. RefusesFor v ps more reason) (append-nil above) rest
@@ -57,7 +57,7 @@ refuses-one v above (p ∷ parts) reason other (inl here) (inr (none, _)) = let 
 refuses-one v above (p ∷ parts) reason other (inr (none, _)) (inl also) = let clash : Some other ≡ None = sym also ∙ none in absurd cc
 refuses-one v above (p ∷ parts) reason other (inr (_, one)) (inr (_, two)) = refuses-one v (above ++ p ∷ []) parts reason other one two
 
--- it stands behind the parts that are taken
+-- it follows the parts that are taken
 record Splits (v : Verdict CdpPart) (above parts : List CdpPart) (reason : Why) : Type 0 where
   pub taken : List CdpPart
   pub part : CdpPart
@@ -212,7 +212,7 @@ end_unrefused v caught none =
     let inside : (o : Option OpenCaption) → (ended_with o caught).refused ≡ caught.refused = elim [ None ↦ refl | Some open_one ↦ refl ] in
     ap (λ w. (unless_refused v w part.End caught).refused) none ∙ inside caught.open_caption ∙ none
 
--- what is refused behind frames
+-- what is refused after frames
 refused_behind : (v : Verdict CdpPart) (frames : List (List CdpPart)) (above parts : List CdpPart) (reason : Why) → RefusesFor (verdict_behind v frames) above parts reason
     → RefusesFor v (handed frames ++ above) parts reason
 refused_behind v frames above [] reason refuses = absurd refuses

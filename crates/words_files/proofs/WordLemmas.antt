@@ -14,7 +14,7 @@ use Rattle.anc_words.proofs.SoundLemmas.{IsTaken-if, test-below}
 use Rattle.anc_words.proofs.WordLemmas.{words_of}
 use Rattle.words_files.specs.Offences.{AreWholeWords}
 
--- what holds of all holds of the first, and of those behind
+-- what holds of all holds of the first, and of those after
 pub All-split : (P : ℕ → Type 0) (front behind : List ℕ) → All P (front ++ behind) → All P front × All P behind
 All-split P [] behind all = (All-nil P, all)
 All-split P (item ∷ front) behind all =

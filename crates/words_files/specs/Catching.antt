@@ -50,7 +50,7 @@ packet_begun did sdid count caught =
     else record caught { open_caption = None; refused = Some why.Length })
     else record caught { open_caption = None }
 
--- what the layers above say of a part of the open packet, behind the frames before it
+-- what the layers above say of a part of the open packet, after the frames before it
 abbrev pub verdict_behind : Verdict CdpPart → List (List CdpPart) → Verdict CdpPart
 verdict_behind verdict frames above part = verdict (flat_map (λ parts. parts) (reverse frames) ++ above) part
 
@@ -95,7 +95,7 @@ abbrev pub unless_refused : Verdict CdpPart → Option Why → WordPart → Caug
 unless_refused verdict None p caught = behind_part verdict p caught
 unless_refused verdict (Some why) p caught = caught
 
--- what is caught behind one more part
+-- what is caught after one more part
 abbrev pub caught_after : Verdict CdpPart → Caught → WordPart → Caught
 caught_after verdict caught p = unless_refused verdict caught.refused p caught
 
@@ -115,7 +115,7 @@ caught_in verdict bytes = caught_of verdict (read_under anc_syntax 2 (caption_ve
 abbrev pub refusal_of : Verdict CdpPart → List ℕ → Option Refusal
 refusal_of verdict bytes = (read_under anc_syntax 2 (caption_verdict verdict) bytes).refusal
 
--- why a word is refused behind these bytes, if it is: its own reason, in the order high bits, flag, word parity, checksum; else that of
+-- why a word is refused after these bytes, if it is: its own reason, in the order high bits, flag, word parity, checksum; else that of
 -- the layer above whose field it carries
 abbrev pub reason_of : Verdict CdpPart → List ℕ → ℕ → Option Why
 reason_of verdict before word =

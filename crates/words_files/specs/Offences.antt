@@ -25,7 +25,7 @@ abbrev pub AreWholeWords : List ℕ → Type 0
 AreWholeWords bytes = length bytes % 2 ≡ 0
 
 -- the bytes have a first offending word: some file begins with the words before it, and none with these and the word itself;
--- its place is the number of its first byte, modulo 2^64, and its reason is that for which it offends behind them
+-- its place is the number of its first byte, modulo 2^64, and its reason is that for which it offends after them
 pub record FirstOffendingWord (layers : Layers) (bytes : List ℕ) (refusal : Refusal) : Type 0 where
   pub before : List ℕ
   pub high : ℕ

@@ -15,7 +15,7 @@ use Rattle.cdp_packets.specs.Refusals.{StandsAt}
 use Rattle.words_files.specs.Frames.{IsFileOf}
 use Rattle.words_files.specs.Layers.{Layers}
 
--- these words are open behind the bytes: the bytes are whole packets, and behind them these words, with which no whole packet
+-- these words are open after the bytes: the bytes are whole packets, and after them these words, with which no whole packet
 -- begins
 pub record AreOpenBehind (words bytes : List ℕ) : Type 0 where
   pub packets : List AncillaryPacket
@@ -26,7 +26,7 @@ pub record AreOpenBehind (words bytes : List ℕ) : Type 0 where
   pub are : AreWords behind words
   pub none_whole : (packet : AncillaryPacket) (front rest : List ℕ) → words ≡ front ++ rest → IsPacket packet front → ⊥
 
--- behind these words stands the count of a packet of captions
+-- after these words stands the count of a packet of captions
 abbrev pub CaptionCountIsNext : List ℕ → Type 0
 CaptionCountIsNext (first ∷ second ∷ third ∷ did ∷ sdid ∷ []) = (did % 256 ≡ 0x61) × (sdid % 256 ≡ 0x01)
 CaptionCountIsNext _ = ⊥
@@ -42,16 +42,16 @@ CaptionCarries _ size bytes = ⊥
 abbrev pub GoesNowhere : ℕ → List ℕ → ℕ → Type 0
 GoesNowhere size bytes byte = (more : List ℕ) (frame : Frame) → IsCdp frame (bytes ++ byte ∷ more) → length (bytes ++ byte ∷ more) ≡ size → ⊥
 
--- behind these words of an open packet a word offends for this reason: no ancillary packet goes on with it; or it is the count of
+-- after these words of an open packet a word offends for this reason: no ancillary packet can continue with it; or it is the count of
 -- a packet of captions, and no distribution packet has this length; or it is a user word of captions, and no distribution packet
--- goes on with its byte, for the reason that stands at that byte
+-- continues with its byte, for the reason that stands at that byte
 pub data OffendsFor (words : List ℕ) (word : ℕ) : Why → Type 0 where
   in_packet : (reason : Why) → WordOffends words word reason → OffendsFor words word reason
   as_length : CaptionCountIsNext words → IsEightBit (word % 256) word → (IsPacketLength (word % 256) → ⊥) → OffendsFor words word why.Length
   as_byte : (reason : Why) (size : ℕ) (bytes : List ℕ) → CaptionCarries words size bytes → IsPacketLength size → IsEightBit (word % 256) word
       → GoesNowhere size bytes (word % 256) → StandsAt size bytes reason → OffendsFor words word reason
 
--- behind these bytes the word of these two bytes offends for this reason: by the words of the open packet before it; or some file goes
+-- after these bytes the word of these two bytes offends for this reason: by the words of the open packet before it; or some file goes
 -- on with it, and of whatever file does, the layers above refuse something that the frames say for this reason, and nothing before it
 pub data HasReason (layers : Layers) (before : List ℕ) (high low : ℕ) : Why → Type 0 where
   by_its_packet : (reason : Why) (words : List ℕ) → AreOpenBehind words before → OffendsFor words (256 * high + low) reason

@@ -33,14 +33,14 @@ field_pairs in_field triplets = flat_map (field_pair in_field) triplets
 abbrev pub received_pairs : FieldNumber → List Frame → List Pair
 received_pairs in_field frames = flat_map (λ frame. field_pairs in_field (packet_triplets frame)) frames
 
--- the state of a field behind frames: what their pairs leave in a receiver that was reset
+-- the state of a field after frames: what their pairs leave in a receiver that was reset
 abbrev pub received : FieldNumber → List Frame → FieldState
 received in_field frames = after in_field (reverse (received_pairs in_field frames))
 
--- the state of a field at a frame: behind the frames up to this one
+-- the state of a field at a frame: after the frames up to this one
 abbrev pub received_at : FieldNumber → List Frame → ℕ → FieldState
 received_at in_field frames frame = received in_field (take (suc frame) frames)
 
--- the received grids: the displayed cells of each channel behind frames
+-- the received grids: the displayed cells of each channel after frames
 abbrev pub received_grids : List Frame → Chan → Grid
 received_grids frames chan = (channel (data_channel_of chan) (received (field_of_channel chan) frames)).displayed

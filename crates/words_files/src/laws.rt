@@ -25,7 +25,7 @@ pub fn files_have_one_list_of_frames()
         → frames ≡ others }
 {}
 
-/// A file behind a file is a file, of the frames of both.
+/// A file after a file is a file, of the frames of both.
 pub fn files_are_joined()
     ensures { (frames others : List Frame) (bytes more : List ℕ) → IsFileOf frames bytes
         → IsFileOf others more
@@ -81,7 +81,7 @@ pub fn files_begin_with_their_first_bytes()
         → Begins (layers_of verdict) (bytes ++ more) → Begins (layers_of verdict) bytes }
 {}
 
-/// A word offends where no file goes on with it: bytes are refused exactly where they have an offending word, at the place of
+/// A word offends where no file can continue with it: bytes are refused exactly where they have an offending word, at the place of
 /// the first and for its reason, and they aren't refused exactly where no word of them offends.
 pub fn first_offence_exact()
     ensures refused { (verdict : Verdict Part) → TakesFilling verdict
@@ -109,7 +109,7 @@ pub fn an_offence_is_one()
         → FirstOffendingWord (layers_of verdict) (bytes ++ more) refused }
 {}
 
-/// Bytes are cut short exactly where none of their words is refused and something is open behind them: half a word, or a packet
+/// Bytes are cut short exactly where none of their words is refused and something is open after them: half a word, or a packet
 /// that isn't whole.
 pub fn bytes_are_cut_short_where_something_is_open()
     ensures cut_short { (verdict : Verdict Part) → TakesFilling verdict → (bytes : List ℕ)
@@ -152,7 +152,7 @@ pub fn no_layer_above_takes_all()
         → IsFileUnder (layers_of never) frames bytes }
 {}
 
-/// A word behind bytes none of whose words is refused, which offends by the words of its packet, is refused for this reason, whatever
+/// A word after bytes none of whose words is refused, which offends by the words of its packet, is refused for this reason, whatever
 /// the layers above say; where these refuse no part, it is refused for no other; and there is one such reason.
 pub fn reasons_stand_at_their_words()
     ensures given { (verdict : Verdict Part) (before : List ℕ) (word : ℕ) (reason : Reason)
@@ -169,7 +169,7 @@ pub fn reasons_stand_at_their_words()
     ensures never { RefusesNone never }
 {}
 
-/// The words that the reader keeps are those that are open behind whole words, and no other words are.
+/// The words that the reader keeps are those that are open after whole words, and no other words are.
 pub fn the_reader_keeps_the_open_words()
     ensures kept { (bytes : List ℕ) → All (λ byte. byte < 256) bytes → AllRead anc_syntax bytes
         → AreWholeWords bytes
@@ -178,7 +178,7 @@ pub fn the_reader_keeps_the_open_words()
         → (open_behind anc_syntax bytes).words ≡ words }
 {}
 
-/// Behind words with which a file begins, a word with which none goes on is refused for the reason for which it offends, by the words of
+/// After words with which a file begins, a word with which none goes on is refused for the reason for which it offends, by the words of
 /// its packet or for the layers above; and by the words of its packet where these refuse no part.
 pub fn words_are_refused_for_their_reasons()
     ensures reason { (verdict : Verdict Part) (before : List ℕ) (high low : ℕ) (reason : Reason)

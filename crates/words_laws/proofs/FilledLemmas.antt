@@ -37,7 +37,7 @@ unfilled s (Byte byte ∷ events) all =
     rw low (unfilled (on_event (Byte byte) s) events all.1)
 unfilled s (Reset ∷ events) all = unfilled (on_event Reset s) events all
 
--- so it is at a frame behind others
+-- so it is at a frame after others
 frame_unfilled : (service : ℕ) (before : List Triplet) (s : Served) (earlier : List Frame) (last : Frame) (later : List Frame)
     → AllFill 127 s (events_behind service before (earlier ++ last ∷ later))
     → is_filled (served_after s (events_behind service before earlier)) (frame_events service (before ++ file_triplets earlier) last) ≡ false

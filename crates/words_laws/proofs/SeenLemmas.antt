@@ -44,7 +44,7 @@ use Rattle.words_laws.proofs.FilledLemmas.{none_filled}
 pub built_file : (list : Listing) (placed : Placement) → IsSoundWords (record { list = list; placed = placed }) → IsFileUnder caption_channel (built_packets list placed) (build_output list placed)
 built_file list placed sound = record { file = sound.frames.carried.file; accepted = sound.frames.whole }
 
--- so many frames, and others behind them
+-- this many frames, and others after them
 pub front_is : (packets frames behind : List Frame) (n : ℕ) → packets ≡ frames ++ behind → n ≡ length frames → take n packets ≡ frames
 front_is packets frames behind n is count =
     ap (take n) is ∙ take-append-le n frames behind (omega arith) ∙ take_all n frames (omega arith)

@@ -9,7 +9,7 @@ use Rattle.cue_list_commands.proofs.CarryingLemmas.{frame_number, triplets_many}
 use Rattle.cue_list_commands.specs.Columns.{Columns}
 use Rattle.words_files.proofs.CarriedWordsLemmas.{length-carried_triplets}
 
--- the packets of so many frames
+-- the packets of this many frames
 pub columns_size : (rate : Rate) (columns : Columns) (frame n : ℕ) → AreRoomy rate columns → length (column_bytes rate columns frame n) ≤ 190 * n
 columns_size rate columns frame zero roomy = omega arith
 columns_size rate columns frame (suc n) roomy =

@@ -54,7 +54,7 @@ XdsWordsAreSeen = (text bytes : List ℕ) (made : PlacedPackets) (words rest : L
     → frame_count receiver ≡ frame + 1 → IsSeenAsAuthored made.list frame words receiver
 
 -- so does one that was fed a front of what `insert` puts of a words file with the captions of an accepted list, where the file's frames have the
--- list's rate and are as many as it has, at least; and behind the list's end what it shows stays
+-- list's rate and are as many as it has, at least; and after the list's end what it shows stays
 abbrev pub InsertedWordsAreSeen : Type 0
 InsertedWordsAreSeen = (bytes : List ℕ) (list : Listing) (placed : Placement) (frames : List Frame) (file text words rest : List ℕ) (receiver : Receiver) (frame : ℕ)
     → IsAccepted bytes list placed → AreInserted (captions_of (list_framing list placed)) frames file text → HaveRate list.rate frames → list.frames ≤ length frames

@@ -21,7 +21,7 @@ pub fn xds_words_are_seen()
 
 /// The law that so it is seen where it is inserted: a receiver that was fed any front of what `insert` puts of a words file with the
 /// captions of an accepted cue list, cut anywhere, where the file's frames have the list's rate and are as many as it has, at least,
-/// shows what is authored at the last frame that it counts, behind the list's end too; and no service's buffer was filled.
+/// shows what is authored at the last frame that it counts, after the list's end too; and no service's buffer was filled.
 pub fn inserted_words_are_seen()
     ensures { InsertedWordsAreSeen }
 {}

@@ -105,7 +105,7 @@ front_of_frames frames behind bytes are =
           begins = record { more = tail; frames = frames ++ behind; is_file = subst (IsFileUnder caption_channel (frames ++ behind)) is are.is_file };
         }
 
--- where each frame is fit behind fit ones or is a reason to stop, all are fit or a first one is a reason
+-- where each frame is fit after fit ones or is a reason to stop, all are fit or a first one is a reason
 module _ (AreFit : List Frame → Type 0) (IsReason : Status → List Frame → Frame → Type 0) (fit_none : AreFit [])
     (decides : (earlier : List Frame) (last : Frame) → AreFit earlier → AreFit (earlier ++ last ∷ []) ⊎ ((answer : Status) × IsReason answer earlier last)) where
   record FirstReason (frames : List Frame) : Type 0 where

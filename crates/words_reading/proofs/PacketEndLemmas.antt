@@ -1,4 +1,4 @@
--- Where a packet ends behind a file, and what it brings.
+-- Where a packet ends after a file, and what it brings.
 use Rattle.std.proofs.Common.{◌≡◌, ℕ, ◌<◌, ◌≤◌, ◌⊎◌, inl, inr, All, List, [], ◌∷◌, ◌++◌, length, take, refl, ap, sym, subst, ◌∙◌, append_assoc, append-nil, length-append, arith, Bool, true, false, nat_lt}
 use Rattle.std.proofs.lemmas.Bool.Decides.{nat_tests}
 use Rattle.std.proofs.Math.Seq.{take-append_seam}
@@ -20,7 +20,7 @@ use Rattle.words_files.proofs.FramesOfLemmas.{carry_front, empty_file, file_fron
 use Rattle.words_files.proofs.WordLemmas.{front_of}
 use Rattle.words_reading.specs.OpenPackets.{NoPacketEnds}
 
--- bytes with which others begin, of which no word offends, and behind which nothing is open, are a file
+-- bytes with which others begin, of which no word offends, and after which nothing is open, are a file
 pub closed_file : (bytes front rest : List ℕ) → bytes ≡ front ++ rest → 0 < length rest → IsUnoffending caption_channel bytes → All (λ b. b < 256) front
     → open_behind anc_syntax front ≡ nothing_open → (packets : List AncillaryPacket) × IsWordsFile packets front
 closed_file bytes front rest spelled some is are closed =
@@ -81,7 +81,7 @@ one_packet packets earlier packet file behind is whole some no_other =
         (subst (λ b. IsWordsFile (packets ++ p ∷ []) (file ++ b)) (sym cut)
         (IsWordsFile-append packets (p ∷ []) file front is (IsWordsFile-one p front is_packet))))
 
--- what one packet behind a file brings
+-- what one packet after a file brings
 pub record Brings (packet : AncillaryPacket) (frames more : List Frame) : Type 0 where
   pub foreign_brings : (IsCaption packet → ⊥) → more ≡ frames
   pub caption_brings : IsCaption packet → (frame : Frame) × IsCdp frame (user_bytes packet) × (more ≡ frames ++ frame ∷ [])
@@ -113,12 +113,12 @@ no_more a b = from_test (nat_lt b a) refl
     from_test true is = inr (grind (arith, nat_tests))
     from_test false is = inl (grind (arith, nat_tests))
 
--- behind one front stands one list
+-- after one front stands one list
 pub tail_same : (front xs ys : List ℕ) → front ++ xs ≡ front ++ ys → xs ≡ ys
 tail_same [] xs ys same = same
 tail_same (f ∷ front) xs ys same = tail_same front xs ys cc
 
--- a file with which bytes begin is no longer, where no packet ends behind a file of them
+-- a file with which bytes begin is no longer, where no packet ends after a file of them
 pub not_longer : (file behind other rest : List ℕ) → NoPacketEnds file behind → file ++ behind ≡ other ++ rest → (packets : List AncillaryPacket) → IsWordsFile packets other
     → length other ≤ length file
 not_longer file behind other rest quiet spelled packets is = elim (no_more (length other) (length file)) [
@@ -134,7 +134,7 @@ not_longer file behind other rest quiet spelled packets is = elim (no_more (leng
       (subst (IsWordsFile packets) (parted ∙ ap (λ m. file ++ m) (sym cut)) is))
 ]
 
--- a file, and bytes behind it with which no packet ends, have the file's frames
+-- a file, and bytes after it with which no packet ends, have the file's frames
 pub frames_here : (frames : List Frame) (file behind : List ℕ) → IsFileUnder caption_channel frames file → NoPacketEnds file behind
     → AreFramesOf caption_channel frames (file ++ behind)
 frames_here frames file behind under quiet = record {

@@ -13,7 +13,7 @@ use Rattle.words_reading.specs.Causes.{words_limit}
 use Rattle.words_reading.specs.OpenPackets.{EndsCaption, EndsForeign, HasRead, HasReadPackets, IsEndedAs, MayFollow, NoPacketEnds, ReadsFront, open_bytes}
 use Rattle.words_reading.specs.declared.packets.Packets.{Packets}
 
--- nothing is open behind a packet
+-- nothing is open after a packet
 nothing_ends : (file kept : List ℕ) → kept ≡ [] → NoPacketEnds file kept
 nothing_ends file kept none others n some few is = absurd (omega (arith, some, few, ap length none))
 
@@ -31,7 +31,7 @@ begun frames file bytes receiver new received few unoffending under same none =
       none = nothing_ends (file ++ bytes) (open_bytes new) none;
     }
 
--- the bytes read, and a front of those behind them
+-- the bytes read, and a front of those after them
 parted : (before file kept front new : List ℕ) → before ≡ file ++ kept → new ≡ kept ++ front → before ++ front ≡ file ++ new
 parted before file kept front new is more =
     ap (λ b. b ++ front) is ∙ append_assoc file kept front ∙ ap (λ b. file ++ b) (sym more)
@@ -62,7 +62,7 @@ may_follow packets bytes more had within =
     let long = ap length had.spelled in
     record { frames = had.frames; file = had.file; read = had.read; within = omega (arith, within, long) }
 
--- bytes are read behind others
+-- bytes are read after others
 module _ (before bytes : List ℕ) (old : Packets) (had : HasReadPackets before old) (mid : Packets) (fed : Fed)
     (read : ReadsFront had.frames had.file bytes old mid fed) where
   abbrev whole : List ℕ

@@ -35,12 +35,12 @@ front_all before bytes at within =
     ∙ append_assoc before (take at bytes) (drop at bytes)
     ∙ ap (λ l. before ++ l) (take-append-drop at bytes)
 
--- a front of bytes behind others is no shorter than it
+-- a front of bytes after others is no shorter than it
 pub front_size : (before bytes : List ℕ) (used : ℕ) → used ≤ length bytes → length (before ++ take used bytes) ≡ length before + used
 front_size before bytes used within =
     length-append before (take used bytes) ∙ ap (λ n. length before + n) (length-take-le used bytes within)
 
--- a front of bytes, and what is behind it
+-- a front of bytes, and what is after it
 pub front_spelled : (before bytes : List ℕ) (used : ℕ) → before ++ bytes ≡ (before ++ take used bytes) ++ drop used bytes
 front_spelled before bytes used =
     ap (λ l. before ++ l) (sym (take-append-drop used bytes)) ∙ sym (append_assoc before (take used bytes) (drop used bytes))

@@ -87,7 +87,7 @@ no_longer refusal file behind rest stands others other after spelled is = elim (
       (file_begins others other is))
 ]
 
--- bytes up to a word that offends, before which no packet ends behind a file, have the file's frames
+-- bytes up to a word that offends, before which no packet ends after a file, have the file's frames
 abbrev pub frames_up_to : (refusal : Refusal) (frames : List Frame) (file behind rest : List ℕ) → IsFileUnder caption_channel frames file → OffendsBehind refusal file behind rest
     → AreFramesOf caption_channel frames ((file ++ behind) ++ rest)
 frames_up_to refusal frames file behind rest under stands = record {

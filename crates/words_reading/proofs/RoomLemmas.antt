@@ -10,7 +10,7 @@ abbrev IsWithinCount : List ℕ → Type 0
 IsWithinCount (first ∷ second ∷ third ∷ did ∷ sdid ∷ count ∷ user) = length user ≤ count % 256
 IsWithinCount _ = Unit {0}
 
--- behind the count
+-- after the count
 body_within : (test : Bool) (first second third did sdid count word : ℕ) (user : List ℕ) → nat_lt (length user) (count % 256) ≡ test
     → IsWithinCount (if test then first ∷ second ∷ third ∷ did ∷ sdid ∷ count ∷ (user ++ word ∷ []) else [])
 body_within true first second third did sdid count word user is =

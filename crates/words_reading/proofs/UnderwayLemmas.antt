@@ -23,7 +23,7 @@ pub record HasPut {J : Type 0} (HasJudged : List ℕ → List ℕ → J → Type
   pub judged : HasJudged bytes text judge
   pub appended : Appends start now text
 
--- bytes were taken and judged, and their text was put; so many more are within the limit
+-- bytes were taken and judged, and their text was put; this many more are within the limit
 pub record IsUnderway {G J : Type 0} (HasRead : List ℕ → J → Type 0) (HasJudged : G → List ℕ → List ℕ → J → Type 0) (first left start0 now : Option (List ℕ)) (begun judge : J) (room : ℕ) : Type 0 where
   pub taken : List ℕ
   pub consumed : Consumes first left taken
@@ -211,7 +211,7 @@ pub ready_on : {J : Type 0} → (HasRead : List ℕ → J → Type 0) → (judge
     → IsReady HasRead judge more
 ready_on HasRead judge room more taken read within fits = record { before = taken; read = read; within = omega arith }
 
--- behind the first of some bytes the others may be judged
+-- after the first of some bytes the others may be judged
 pub ready_within : {J : Type 0} → (HasRead : List ℕ → J → Type 0) → (judge : J) (before bytes : List ℕ) (at more : ℕ) → length before + length bytes ≤ words_limit → at ≤ length bytes
     → more ≡ length bytes - at → HasRead (before ++ take at bytes) judge → IsReady HasRead judge more
 ready_within HasRead judge before bytes at more within fits is read =

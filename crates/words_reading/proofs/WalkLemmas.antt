@@ -1,4 +1,4 @@
--- A words file packet by packet: what is good of a file and of a packet behind it is good of both, or a run stops with the packet; so it is good
+-- A words file packet by packet: what is good of a file and of a packet after it is good of both, or a run stops with the packet; so it is good
 -- of a whole file, or a run stops within it.
 use Rattle.std.proofs.Common.{◌≡◌, ◌∙◌, ◌⊎◌, ◌++◌, ◌∷◌, ap, append_assoc, append-nil, arith, inl, inr, refl, subst, sym, ℕ, List, []}
 use Rattle.anc_words.proofs.WordsFileLemmas.{IsWordsFile-first, IsWordsFile-nil, IsWordsFile-one}
@@ -40,7 +40,7 @@ front_fine frames all head tail file whole =
       begins = record { more = tail; frames = all; is_file = whole };
     }
 
--- a packet behind a file
+-- a packet after a file
 one_caption : (packet : AncillaryPacket) (frame : Frame) (bytes : List ℕ) → IsPacketBytes packet bytes → IsCaption packet → IsCdp frame (user_bytes packet) → IsFileOf (frame ∷ []) bytes
 one_caption packet frame bytes is is_caption carries =
     record { packets = packet ∷ []; file = IsWordsFile-one packet bytes is; carried = caption packet [] frame [] is_caption carries none }

@@ -36,7 +36,7 @@ use Rattle.command_base.specs.Realises.{LeavesAll, PutsRead, RealisesAlone, Real
 use Rattle.command_base.specs.WholeInput.{ReadsInput}
 use Rattle.words_reading.specs.WordsVerdict.{EndsWords, OfFile, WordsVerdict, admitted}
 
--- behind a word that offends no file goes on
+-- after a word that offends no file goes on
 pub none_longer : (frames : List Frame) (judged more : List ℕ) (refusal : Refusal) → (are : AreFramesOf caption_channel frames judged)
     → FirstOffendingWord caption_channel judged refusal → (others : List Frame) (other rest : List ℕ) → judged ++ more ≡ other ++ rest → IsFileUnder caption_channel others other
     → length other ≤ length are.file
@@ -88,7 +88,7 @@ pub admitted_all : (input : List ℕ) → length input ≤ words_limit → admit
 admitted_all input within =
     ap (take words_limit) (sym (append-nil input)) ∙ front_within input [] within ∙ ap (λ l. input ++ l) (take_none (words_limit - length input)) ∙ append-nil input
 
--- the text of frames sees nothing behind the last whole packet
+-- the text of frames sees nothing after the last whole packet
 pub frames_stay : (text_of : List Frame → List ℕ) (AreFit : List Frame → Type 0) (judged more text : List ℕ) (refusal : Refusal)
     → FirstOffendingWord caption_channel judged refusal → FramesSay text_of AreFit judged text → FramesSay text_of AreFit (judged ++ more) text
 frames_stay text_of AreFit judged more text refusal offence says =

@@ -1,5 +1,5 @@
 -- Believed in part: the program's answer stands on some of these definitions.
--- Causes for which a reading of words ends: of the bytes judged, and of those taken behind them and not judged.
+-- Causes for which a reading of words ends: of the bytes judged, and of those taken after them and not judged.
 use Rattle.std.specs.Prelude.{◌≡◌, ◌<◌, ◌⊎◌, ℕ, List, [], length, Option, IfSome}
 use Rattle.cc_base.specs.declared.refusal.Refusal.{Refusal}
 use Rattle.cdp_packets.specs.Packets.{Frame}
@@ -10,7 +10,7 @@ use Rattle.cc_receiver.specs.CaptionChannel.{caption_channel}
 abbrev pub words_limit : ℕ
 words_limit = 2147483647
 
--- what may hold where a run stops: of the bytes judged, and of those taken behind them and not judged
+-- what may hold where a run stops: of the bytes judged, and of those taken after them and not judged
 abbrev pub Cause : Type 1
 Cause = List ℕ → List ℕ → Type 0
 

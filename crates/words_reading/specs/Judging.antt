@@ -18,7 +18,7 @@ pub record HasGathered {J : Type 0} (HasJudged : List ℕ → List ℕ → J →
   pub judged : HasJudged bytes text judge
   pub way : IsGathered start now held text
 
--- a judge judged some bytes, and so many may follow within the limit
+-- a judge judged some bytes, and this many may follow within the limit
 pub record IsReady {J : Type 0} (HasRead : List ℕ → J → Type 0) (judge : J) (more : ℕ) : Type 0 where
   pub before : List ℕ
   pub read : HasRead before judge
@@ -28,7 +28,7 @@ pub record IsReady {J : Type 0} (HasRead : List ℕ → J → Type 0) (judge : J
 abbrev pub SaysFront : {R : Type 0} → (List ℕ → List ℕ → Type 0) → (R → List ℕ → List ℕ → Type 0) → List ℕ → List ℕ → Type 0
 SaysFront {R} Says Halts judged text = Says judged text ⊎ ((reason : R) × Halts reason judged text)
 
--- why a judge stopped, of the bytes judged, of those behind them, and of the text that stands for the former
+-- why a judge stopped, of the bytes judged, of those after them, and of the text that stands for the former
 abbrev pub StopsFor : {R : Type 0} → (List ℕ → List ℕ → Type 0) → (R → List ℕ → List ℕ → Type 0) → Stop R → List ℕ → List ℕ → List ℕ → Type 0
 StopsFor Says Halts (stop.Refused refusal) judged unjudged text = (unjudged ≡ []) × FirstOffendingWord caption_channel judged refusal × Says judged text
 StopsFor Says Halts stop.WriteFault judged unjudged text = SaysFront Says Halts judged text
@@ -50,7 +50,7 @@ pub record HasStopped {R : Type 0} (Says : List ℕ → List ℕ → Type 0) (Ha
   pub cause : StopsFor Says Halts why judged unjudged text
   pub way : GathersBefore why start now held text
 
--- what a judge makes of the next of these bytes, behind those before
+-- what a judge makes of the next of these bytes, after those before
 abbrev pub StepJudges : {R J : Type 0} → (List ℕ → List ℕ → J → Type 0) → (List ℕ → List ℕ → Type 0) → (R → List ℕ → List ℕ → Type 0)
     → Option (List ℕ) → Option (List ℕ) → List ℕ → List ℕ → List ℕ → J → Result ℕ (Stop R) → Type 0
 StepJudges HasJudged Says Halts start now held before bytes judge (Ok used) = HasGathered HasJudged start now held (before ++ take used bytes) judge

@@ -13,11 +13,11 @@ use Rattle.words_files.specs.Offences.{FirstOffendingWord, IsFileUnder, IsUnoffe
 use Rattle.cc_receiver.specs.CaptionChannel.{caption_channel}
 use Rattle.words_reading.specs.declared.packets.Packets.{Packets}
 
--- no packet ends among the bytes behind a file
+-- no packet ends among the bytes after a file
 abbrev pub NoPacketEnds : List ℕ → List ℕ → Type 0
 NoPacketEnds file behind = (packets : List AncillaryPacket) (n : ℕ) → 0 < n → n ≤ length behind → IsWordsFile packets (file ++ take n behind) → ⊥
 
--- behind these bytes, with which no packet ends behind a file, stands the first word that offends
+-- after these bytes, with which no packet ends after a file, stands the first word that offends
 pub record OffendsBehind (refusal : Refusal) (file behind rest : List ℕ) : Type 0 where
   pub offends : FirstOffendingWord caption_channel ((file ++ behind) ++ rest) refusal
   pub before : offends.before ≡ file ++ behind
@@ -27,7 +27,7 @@ pub record OffendsBehind (refusal : Refusal) (file behind rest : List ℕ) : Typ
 abbrev pub open_bytes : Packets → List ℕ
 open_bytes packets = packets.held.items
 
--- a file of these frames was read, and behind it the bytes of the open packet
+-- a file of these frames was read, and after it the bytes of the open packet
 pub record HasRead (frames : List Frame) (file : List ℕ) (packets : Packets) : Type 0 where
   pub received : HasReceived (file ++ open_bytes packets) packets.receiver
   pub few : frame_count packets.receiver ≤ length (file ++ open_bytes packets)
@@ -35,21 +35,21 @@ pub record HasRead (frames : List Frame) (file : List ℕ) (packets : Packets) :
   pub under : IsFileUnder caption_channel frames file
   pub none : NoPacketEnds file (open_bytes packets)
 
--- these bytes were read: a file, and the bytes of the packet that is open behind it
+-- these bytes were read: a file, and the bytes of the packet that is open after it
 pub record HasReadPackets (bytes : List ℕ) (packets : Packets) : Type 0 where
   pub frames : List Frame
   pub file : List ℕ
   pub spelled : bytes ≡ file ++ open_bytes packets
   pub read : HasRead frames file packets
 
--- so many bytes may follow within the limit
+-- this many bytes may follow within the limit
 pub record MayFollow (limit : ℕ) (packets : Packets) (more : ℕ) : Type 0 where
   pub frames : List Frame
   pub file : List ℕ
   pub read : HasRead frames file packets
   pub within : length (file ++ open_bytes packets) + more ≤ limit
 
--- behind this file an ancillary packet of these bytes ended, which isn't one of captions
+-- after this file an ancillary packet of these bytes ended, which isn't one of captions
 pub record EndsForeign (frames : List Frame) (file bytes : List ℕ) (packets : Packets) : Type 0 where
   pub packet : AncillaryPacket
   pub is : IsPacketBytes packet bytes
@@ -83,7 +83,7 @@ pub record ReadsFront (frames : List Frame) (file bytes : List ℕ) (old new : P
   pub kept : open_bytes new ≡ open_bytes old ++ take fed.used bytes
   pub ends : IsEndedAs fed.ended frames file new
 
--- a word of these bytes behind a file was refused
+-- a word of these bytes after a file was refused
 pub record RefusesWord (file bytes : List ℕ) (refusal : Refusal) : Type 0 where
   pub behind : List ℕ
   pub rest : List ℕ

@@ -14,7 +14,7 @@ use Rattle.words_reading.specs.Judging.{SaysFront}
 use Rattle.words_reading.specs.declared.judge.Stop.{Stop}
 use Rattle.words_reading.specs.declared.judge.Stop.TheVariants as stop
 
--- a run judged bytes, within the limit, and took more behind them; a text that is said of them was put, or a front of it where a put
+-- a run judged bytes, within the limit, and took more after them; a text that is said of them was put, or a front of it where a put
 -- failed; and it stopped for this cause
 pub record Stops (Says : List ℕ → List ℕ → Type 0) (Why : Cause) (answer : Put) (old new : Ends) : Type 0 where
   pub judged : List ℕ

@@ -27,7 +27,7 @@ xds_framing made = record { rate = made.list.rate; columns = packet_columns made
 abbrev pub xds_packets : PlacedPackets → List Frame
 xds_packets made = packets_of (xds_framing made)
 
--- what holds of the words that `xds` puts: their frames are sound, no service is told more than its share; a receiver that was reset
+-- what holds of the words that `xds` puts: their frames are sound, no service gets more than its share; a receiver that was reset
 -- before the first frame shows the list, and at every frame, settled or not, on each channel and in each service what it shows of the words
 -- that `build` puts of the list; the delay of each window cue is sent; and the packets that are read in the pairs of field 2 are just those of
 -- the list of packets, in their order

@@ -39,7 +39,7 @@ code_here None n codes none = none
 code_here (Some code) n codes none = ap (λ (b : Bool). first_or b (record { slot = n; code = code }) codes n) (eq-eqb n n refl)
 
 module _ (t : ℕ → Option Code) where
-  -- none stands before the first slot, or behind the last
+  -- none stands before the first slot, or after the last
   none_before : (from k n : ℕ) → n < from → code_in (given_from t from k) n ≡ None
   none_before from zero n less = refl
   none_before from (suc k) n less =

@@ -85,7 +85,7 @@ part_own (part ∷ parts) (f ∷ fs) n unit own is = by_slot (eqb n f) refl (λ 
         subst (IsOfChannel One) it' own.0
     by_slot false test rest = rest (sym (at_unit part.chunk (part_chunks parts) f fs n false test) ∙ is)
 
--- a unit stands behind those before it
+-- a unit follows those before it
 behind_end : (events : List Event) (ps : List FieldChunk) (fs : List ℕ) (before : List (FieldChunk × ℕ)) (n : ℕ) (u : Unit) → IsPlaced (field_lane events) before ps fs
     → stands ps fs n ≡ Some u → end_of before ≤ n
 behind_end events [] fs before n u placed is = cc

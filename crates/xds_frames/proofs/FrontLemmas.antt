@@ -14,7 +14,7 @@ use Rattle.xds_frames.specs.ListPackets.{OnePacketLacksRoom, RoomLacksNone}
 use Rattle.xds_packets.specs.Places.{AllStand, Follow, PlacedCode, StandFrom}
 use Rattle.xds_packets.specs.Sending.{Listed}
 
--- the pairs behind one end behind it
+-- the pairs after one end after it
 follow_end : (free : ℕ → Bool) (cont : Code) (at : ℕ) (codes : List Code) (placed : List PlacedCode) (end : ℕ) → Follow free cont at codes placed end → at < end
 follow_end free cont at codes [] end (none, same) = omega arith
 follow_end free cont at codes (p ∷ placed) end (next, inl (near, (rest, (is, follow)))) =

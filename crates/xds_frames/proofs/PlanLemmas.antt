@@ -37,7 +37,7 @@ module _ (list : Listing) (listed : List Listed) (placed : Placement) (is : IsLi
   lacks_room round packets number gives left stands tells =
       record { placed = placed; placed_is = is; first = round_told round packets (Some number) gives left stands tells }
 
-  -- and behind the round the packets begin anew
+  -- and after the round the packets begin anew
   pub again_laid : (round : Plan) (packets behind : Packets) → GivesFrom (columns_of list placed) 0 round → IsLaying (laying_of list placed listed) 0 packets
       → ((columns : Columns) (laying : Laying) → GivesFrom columns 0 round → HasPairs laying columns → IsLaying laying 0 packets → IsLaying laying 0 behind)
       → IsLaying (laying_of list placed listed) 0 behind

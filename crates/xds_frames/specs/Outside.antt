@@ -17,7 +17,7 @@ use Rattle.dual_fields.specs.Reading.{acts, pairs_before}
 use Rattle.dual_fields.specs.Sharing.{AreFor, IsLed, is_text}
 use Rattle.dual_fields.specs.Reading.{IsMarked}
 
--- a pair that begins or goes on with extended data
+-- a pair that begins or continues with extended data
 abbrev pub begins : Code → Type 0
 begins Null = ⊥
 begins (Text first second) = ⊥

@@ -30,7 +30,7 @@ pub record LacksXdsRoom (list : Listing) (listed : List Listed) (packet : ℕ) :
   pub placed_is : IsListPlaced list placed
   pub first : IsFirstWithoutXdsRoom list placed listed packet
 
--- why both have no plan; want of memory may come in the place of any
+-- why both have no plan; 'out of memory' may be answered in place of any
 abbrev pub IsXdsPlanFault : Listing → List Listed → XdsPlanFault → Type 0
 IsXdsPlanFault list listed (Memory error) = ⊤
 IsXdsPlanFault list listed (NoRoom cue) = IsFirstWithoutRoom list cue

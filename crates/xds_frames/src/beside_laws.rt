@@ -30,7 +30,7 @@ pub fn packets_change_nothing()
     ensures { PacketsChangeNothing }
 {}
 
-/// With packets in its free slots, the frames of a list are sound, and each service is told what it is told without.
+/// With packets in its free slots, the frames of a list are sound, and each service gets what it gets without.
 pub fn packets_leave_frames_sound()
     ensures { PacketsLeaveFramesSound }
 {}

@@ -7,7 +7,7 @@ ghost use Rattle.xds_packets.specs.Places.{LacksRoom};
 use crate::packets::Packets;
 use frame_carrier::Frames;
 
-/// The number, from 1, of the first packet whose end pair finds no free slot in these frames; None where each finds one. Behind it the
+/// The number, from 1, of the first packet whose end pair finds no free slot in these frames; None where each finds one. After it the
 /// packets begin anew.
 pub fn first_without_room<F: Frames + Drop>(frames: F, packets: &mut Packets) -> Option<u32>
     requires { F.left frames ≤ frames_last packets.old }

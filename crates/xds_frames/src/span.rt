@@ -3,6 +3,6 @@
 pub struct Span {
     /// The first frame.
     pub load: u32,
-    /// The frame behind the last one.
+    /// The frame after the last one.
     pub show: u32,
 }

@@ -34,7 +34,7 @@ taken due before more one number row rest all is rows good added =
     ∙ ap (λ r. read_on before number r (λ more. read_from more (number + 1) rest)) (sym good)
     ∙ ap (λ l. read_from l (number + 1) rest) (sym added)
 
--- what was read behind these packets
+-- what was read after these packets
 record Spelled (records : List Record) (before listed : List Listed) : Type 0 where
   more : List Listed
   listed_are : listed ≡ before ++ more

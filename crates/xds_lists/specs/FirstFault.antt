@@ -8,7 +8,7 @@ use Rattle.xds_lists.specs.declared.fault.XdsFault.{XdsFault}
 use Rattle.xds_lists.specs.declared.fault.XdsFault.TheVariants as malformed
 use Rattle.xds_packets.specs.Sending.{Listed}
 
--- some packet's record has the same first fields, so many
+-- some packet's record has the same first fields, this many
 pub record BeginsPacket (count : ℕ) (r : Record) : Type 0 where
   pub packet : Listed
   pub listed : IsListed packet

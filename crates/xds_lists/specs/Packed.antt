@@ -1,5 +1,5 @@
 -- Between crates: the program's answer stands on none of these definitions.
--- Packets that are kept as their heads, and the texts of all, one behind the other.
+-- Packets that are kept as their heads, and the texts of all, one after the other.
 use Rattle.std.specs.Prelude.{◌≡◌, ℕ, ◌^◌, ◌<◌, All, List, [], ◌∷◌, ◌++◌, drop, length, map, take}
 use Rattle.xds_lists.specs.Form.{IsListed}
 use Rattle.xds_lists.specs.declared.head.Head.{Head}
@@ -17,7 +17,7 @@ unpacked (head ∷ heads) texts = listed_with head (take head.size texts) ∷ un
 abbrev pub head_of : Listed → Head
 head_of listed = record { from = listed.from; class = listed.packet.class; kind = listed.packet.kind; size = length listed.packet.text }
 
--- the texts of packets, one behind the other
+-- the texts of packets, one after the other
 abbrev pub texts_of : List Listed → List ℕ
 texts_of [] = []
 texts_of (first ∷ listed) = first.packet.text ++ texts_of listed

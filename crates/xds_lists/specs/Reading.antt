@@ -39,7 +39,7 @@ read_from before number (r ∷ rs) = read_on before number (listed_of r) (λ mor
 abbrev pub read_packets : List Record → Result (List Listed) Offending
 read_packets records = read_from [] 1 records
 
--- the list that is due, or the fault; want of memory may come in their place
+-- the list that is due, or the fault; 'out of memory' may be answered in their place
 abbrev pub Answers : Result (List Listed) Offending → Result (List Listed) XdsFault → Type 0
 Answers due (Ok listed) = due ≡ Ok listed
 Answers due (Err (fault.Memory error)) = ⊤

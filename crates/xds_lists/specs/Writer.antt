@@ -26,7 +26,7 @@ abbrev pub is_due : ℕ → List Listed → Bool
 is_due frame [] = false
 is_due frame (listed ∷ left) = nat_le listed.from frame
 
--- a writer of a list behind so many slots
+-- a writer of a list after this many slots
 pub record IsBehind (free : ℕ → Bool) (frame_of : ℕ → ℕ) (listed : List Listed) (n : ℕ) (writer : XdsWriter) : Type 0 where
   pub list_is : writer.list ≡ listed
   pub writes : IsWriting writer (writing_at free frame_of listed n)

@@ -10,7 +10,7 @@ use std::marker::Model;
 use xds_packets::{XdsPacket, XdsText};
 
 /// A list of packets, each with the frame that it is sent from: fewer than 4,294,967,296, as a file has them. They are kept as
-/// the heads of all and the texts of all, one behind the other.
+/// the heads of all and the texts of all, one after the other.
 #[derive(Drop)]
 pub struct XdsList {
     heads: Vec<Head>,
@@ -78,7 +78,7 @@ impl XdsList {
         self.heads[index].from
     }
 
-    /// A packet, whose text begins behind those of the packets before it.
+    /// A packet, whose text begins after those of the packets before it.
     pub fn listed(&self, index: usize, start: usize) -> XdsListed
         requires index { index < length self.now }
         requires start { start ≡ text_before index self.now }

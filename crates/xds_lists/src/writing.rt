@@ -118,7 +118,7 @@ impl XdsWriter {
         self.begun < self.list.len() && self.list.frame(self.begun) <= frame
     }
 
-    // Goes on with the packet that is under way.
+    // Continues with the packet that is under way.
     fn go_on(&mut self, mut sending: Sending) -> Code
         requires { self.now.under_way ≡ None }
         ensures sends { (frame : ℕ) (s : Unsent) → s.left ≡ drop self.old.begun self.old.list
@@ -152,7 +152,7 @@ impl XdsWriter {
     }
 }
 
-// The text pair that goes on from so many bytes.
+// The text pair that goes on from this many bytes.
 fn code_after(text: &[u8], sent: usize) -> Option<Code>
     requires { All (λ byte. (0x20 ≤ byte) × (byte ≤ 0x7E)) text.now }
     ensures none { IfNone result (drop sent text.now ≡ []) }

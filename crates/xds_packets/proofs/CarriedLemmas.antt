@@ -71,7 +71,7 @@ Under s r (packet ∷ (other ∷ packets)) = ⊥
 abbrev AreGood : Unsent → Type 0
 AreGood s = All (λ (m : Listed). IsXdsPacket m.packet) s.left
 
--- what a slot does: the packets that end, and what is under way behind it
+-- what a slot does: the packets that end, and what is under way after it
 record Does (code : Code) (next : Unsent) (r : State) (left under : List XdsPacket) : Type 0 where
   is_code : IsCode code
   after_under : List XdsPacket
@@ -322,7 +322,7 @@ free_does frame s r (packet ∷ []) busy good =
     by_broken false is = busy_does packet busy.sent unsent frame s r busy.under good is
 free_does frame s r (packet ∷ (other ∷ packets)) never good = absurd never
 
--- a control code came, and no slot behind it was free: no segment is open
+-- a control code came, and no slot after it was free: no segment is open
 module _ (free : ℕ → Bool) (frame_of : ℕ → ℕ) (others : ℕ → Code) (listed : List Listed) (beside : AreBeside others free) (are : All (λ (m : Listed). IsXdsPacket m.packet) listed) where
   pub record Stands (n : ℕ) : Type 0 where
     pub state : State

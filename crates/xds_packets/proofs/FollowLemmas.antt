@@ -10,7 +10,7 @@ use Rattle.xds_packets.specs.Sending.{Given, Listed, Unsent, begun_at, given_in,
 use Rattle.xds_packets.specs.Places.{PairsStandInTheNextFreeSlots}
 use Rattle.line21_codes.specs.Writable.{IsWritable}
 
--- behind a slot that is free a packet that is under way isn't broken
+-- after a slot that is free a packet that is under way isn't broken
 whole_begun : (frame : ℕ) (s : Unsent) (left : List Listed) (code : Code) (codes : List Code) → s.codes ≡ [] → (begun_at frame s left).next.codes ≡ code ∷ codes → (begun_at frame s left).next.broken ≡ false
 whole_begun frame s [] code codes none is = let wrong : [] ≡ code ∷ codes = sym none ∙ is in absurd (cc)
 whole_begun frame s (l ∷ left) code codes none is = by_frame (nat_le l.from frame) is

@@ -132,7 +132,7 @@ ended_now check (s ∷ ss) = by_end s.end (list_any is_ended (map (grown (Xds 0x
         by_ended true = refl
         by_ended false = is
 
--- the packet under way of a class behind one pair more
+-- the packet under way of a class after one pair more
 abbrev under_way_in : ℕ → List Segment → Option UnderWay
 under_way_in kind own = if list_any is_ended own then None else fitted kind (segments_text own)
 

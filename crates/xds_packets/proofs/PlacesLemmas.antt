@@ -60,7 +60,7 @@ module _ (free : ℕ → Bool) (frame_of : ℕ → ℕ) (listed : List Listed) w
   skipped (suc j) from n placed end is none g =
       none_given from placed end (none from (omega arith) (omega arith)) (skipped j (suc from) n placed end (omega arith) (λ m low high. none m (omega (arith, low)) high) g)
 
-  -- behind slots that aren't free
+  -- after slots that aren't free
   record Alike (s u : Unsent) : Type 0 where
     left : u.left ≡ s.left
     cont : u.cont ≡ s.cont
@@ -85,7 +85,7 @@ module _ (free : ℕ → Bool) (frame_of : ℕ → ℕ) (listed : List Listed) w
   taken_none : (m : ℕ) → free m ≡ false → given_at free frame_of listed m ≡ None
   taken_none m is = ap (λ (g : Given). g.code) (taken_next (free m) (frame_of m) (writing_at free frame_of listed m) is)
 
-  -- the pairs of a packet behind one of them
+  -- the pairs of a packet after one of them
   record Ends (from : ℕ) (placed : List PlacedCode) (end : ℕ) (left : List Listed) : Type 0 where
     gives : Gives from placed end
     none_under : (writing_at free frame_of listed end).codes ≡ []
@@ -275,7 +275,7 @@ module _ (free : ℕ → Bool) (frame_of : ℕ → ℕ) (listed : List Listed) w
       by_free true at (inl early) more = later (λ it. early) more
       by_free false at due more = later (λ it. let wrong : true ≡ false = sym it ∙ at in absurd (cc)) more
 
-  -- more than these are left behind so many slots
+  -- more than these are left after this many slots
   abbrev Still : List Listed → ℕ → Type 0
   Still left n = length left < unended (writing_at free frame_of listed n).codes (writing_at free frame_of listed n).left
 

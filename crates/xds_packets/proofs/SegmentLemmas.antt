@@ -6,7 +6,7 @@ use Rattle.line21_codes.specs.declared.codes.Code.{Code}
 use Rattle.line21_codes.specs.declared.codes.Code.TheVariants.{Null, Text, Xds, Control}
 use Rattle.xds_packets.specs.Segments.{Segment, data_bytes, first_mark, is_mark, is_open, is_open_end, opened, segments, since_start, starts_class, stretch}
 
--- a segment with one pair more behind it
+-- a segment with one pair more after it
 abbrev pub grown : Code → Segment → Segment
 grown code s = record s { bytes = s.bytes ++ (if is_open s then data_bytes code else []); end = if is_open s && is_mark code then Some code else s.end }
 

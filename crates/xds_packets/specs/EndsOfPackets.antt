@@ -18,7 +18,7 @@ IsOpenOf packet (Some segment) = (segment.class ≡ packet.class) × (segment.ki
 abbrev pub sum_with : XdsPacket → ℕ → ℕ
 sum_with packet check = (2 * packet.class - 1) + packet.kind + sum packet.text + 0x0F + check
 
--- an end pair with this second byte ends the packet behind these segments
+-- an end pair with this second byte ends the packet after these segments
 pub record EndsBehind (segments : List Segment) (check : ℕ) (packet : XdsPacket) : Type 0 where
   pub closes : IsOpenOf packet (open_of segments)
   -- the last start pair of the class has the packet's type
@@ -29,7 +29,7 @@ pub record EndsBehind (segments : List Segment) (check : ℕ) (packet : XdsPacke
   pub is_start : starts_class packet.class start ≡ true
   pub is_last : All (λ segment. starts_class packet.class segment ≡ false) later
   pub kind_is : start.kind ≡ packet.kind
-  -- no earlier end pair behind it closed a segment of the class and type
+  -- no earlier end pair after it closed a segment of the class and type
   pub unended : All (λ segment. is_ended segment ≡ false) (filter (is_of_type packet.class packet.kind) (start ∷ later))
   -- the segments of the class and type since then have together at most 32 bytes, which are the text
   pub text_is : packet.text ≡ segments_text (filter (is_of_type packet.class packet.kind) (start ∷ later))

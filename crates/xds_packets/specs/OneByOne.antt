@@ -34,7 +34,7 @@ put class one under_way other = if class == other then one else under_way other
 abbrev pub fitted : ℕ → List ℕ → Option UnderWay
 fitted kind text = if nat_le (length text) 32 then Some (record { kind = kind; text = text }) else None
 
--- a packet with these bytes of the segment behind its text, if it is of the segment's type
+-- a packet with these bytes of the segment after its text, if it is of the segment's type
 abbrev pub added : Label → List ℕ → Option UnderWay → Option UnderWay
 added label bytes None = None
 added label bytes (Some so_far) = if label.kind == so_far.kind then fitted so_far.kind (so_far.text ++ bytes) else Some so_far
@@ -61,7 +61,7 @@ abbrev pub ended : Option Label → State → State
 ended None state = record state { label = None }
 ended (Some label) state = record { label = None; under_way = put label.class (dropped label (state.under_way label.class)) state.under_way }
 
--- what is kept behind a code more
+-- what is kept after a code more
 abbrev pub next_state : Code → State → State
 next_state Null state = state
 next_state (Text first second) state = gone_on state.label (data_bytes (Text first second)) state
@@ -96,7 +96,7 @@ under_way_from class (segment ∷ segments) =
     if list_any is_ended (filter (is_of_type class segment.kind) (segment ∷ segments)) then None
     else fitted segment.kind (segments_text (filter (is_of_type class segment.kind) (segment ∷ segments)))
 
--- what is kept behind these codes
+-- what is kept after these codes
 pub record StandsAt (codes : List Code) (state : State) : Type 0 where
   pub label_is : state.label ≡ label_of (open_of (segments codes))
   pub under_way_are : (class : ℕ) → state.under_way class ≡ under_way_from class (since_start class (segments codes))
@@ -108,7 +108,7 @@ IsCode (Text first second) = ⊤
 IsCode (Xds first second) = first ≤ 0x0F
 IsCode (Control second control) = ⊤
 
--- the packet that ends at a code is the reading's, whatever came before, and what is kept behind it is what the reading needs
+-- the packet that ends at a code is the reading's, whatever came before, and what is kept after it is what the reading needs
 abbrev pub CodesAreReadOneByOne : Type 0
 CodesAreReadOneByOne = StandsAt [] fresh × ((codes : List Code) (code : Code) (state : State) → IsCode code → StandsAt codes state
     → (given code state ≡ ends_at codes code) × StandsAt (codes ++ code ∷ []) (next_state code state))

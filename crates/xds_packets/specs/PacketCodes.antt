@@ -33,7 +33,7 @@ start_code packet = Xds (2 * packet.class - 1) packet.kind
 abbrev pub continue_code : XdsPacket → Code
 continue_code packet = Xds (2 * packet.class) packet.kind
 
--- what is sent behind the start pair, or behind some of the text: this text and the end pair
+-- what is sent after the start pair, or after some of the text: this text and the end pair
 abbrev pub rest_codes : XdsPacket → List ℕ → List Code
 rest_codes packet text = data_codes text ++ Xds 0x0F (checksum packet) ∷ []
 

@@ -23,7 +23,7 @@ pub record IsStart (free : ℕ → Bool) (frame_of : ℕ → ℕ) (from frame n 
   pub due : frame ≤ frame_of n
   pub none : (m : ℕ) → from ≤ m → m < n → free m ≡ true → frame_of m < frame
 
--- the pairs of a packet behind the one in a slot, and the slot behind them all: each in the next free slot; where a slot that isn't free
+-- the pairs of a packet after the one in a slot, and the slot after them all: each in the next free slot; where a slot that isn't free
 -- lies between, the continue pair stands first in that slot
 abbrev pub Follow : (ℕ → Bool) → Code → ℕ → List Code → List PlacedCode → ℕ → Type 0
 Follow free cont at codes [] end = (codes ≡ []) × (end ≡ suc at)
@@ -31,7 +31,7 @@ Follow free cont at codes (p ∷ placed) end = IsNext free (suc at) p.slot
     × (((p.slot ≡ suc at) × ((rest : List Code) × ((codes ≡ p.code ∷ rest) × Follow free cont p.slot rest placed end)))
     ⊎ ((suc at < p.slot) × ((p.code ≡ cont) × (((code : Code) × ((rest : List Code) × (codes ≡ code ∷ rest))) × Follow free cont p.slot codes placed end))))
 
--- a packet from a slot on, and the slot behind it
+-- a packet from a slot on, and the slot after it
 pub record StandsFrom (free : ℕ → Bool) (frame_of : ℕ → ℕ) (from : ℕ) (listed : Listed) (placed : List PlacedCode) (end : ℕ) : Type 0 where
   pub at : ℕ
   pub start : IsStart free frame_of from listed.from at
@@ -44,7 +44,7 @@ abbrev pub StandFrom : (ℕ → Bool) → (ℕ → ℕ) → ℕ → List Listed 
 StandFrom free frame_of from [] placed end = (placed ≡ []) × (end ≡ from)
 StandFrom free frame_of from (l ∷ listed) placed end = (first rest : List PlacedCode) × ((placed ≡ first ++ rest) × ((behind : ℕ) × (StandsFrom free frame_of from l first behind × StandFrom free frame_of behind listed rest end)))
 
--- what is given in so many slots from one on
+-- what is given in this many slots from one on
 abbrev pub placed_in : ℕ → Option Code → List PlacedCode → List PlacedCode
 placed_in n None placed = placed
 placed_in n (Some code) placed = record { slot = n; code = code } ∷ placed
@@ -56,7 +56,7 @@ given_from t from (suc k) = placed_in from (t from) (given_from t (suc from) k)
 abbrev pub given_at : (ℕ → Bool) → (ℕ → ℕ) → List Listed → ℕ → Option Code
 given_at free frame_of listed n = (given_in (free n) (frame_of n) (writing_at free frame_of listed n)).code
 
--- the writer gives the pairs where they stand, and none elsewhere; and behind them it is over
+-- the writer gives the pairs where they stand, and none elsewhere; and after them it is over
 pub record GivesPlaced (free : ℕ → Bool) (frame_of : ℕ → ℕ) (listed : List Listed) (placed : List PlacedCode) (end : ℕ) : Type 0 where
   pub given_are : given_from (given_at free frame_of listed) 0 end ≡ placed
   pub none_left : (writing_at free frame_of listed end).left ≡ []
@@ -73,13 +73,13 @@ pub record AllStand (free : ℕ → Bool) (frame_of : ℕ → ℕ) (listed : Lis
   pub stand : StandFrom free frame_of 0 listed placed end
   pub within : end ≤ below
 
--- behind so many slots the writer is over exactly where all packets stand in them
+-- after this many slots the writer is over exactly where all packets stand in them
 abbrev pub OverWhereAllStand : Type 0
 OverWhereAllStand = (free : ℕ → Bool) (frame_of : ℕ → ℕ) (listed : List Listed) (n : ℕ)
     → (AllStand free frame_of listed n → ((writing_at free frame_of listed n).codes ≡ []) × ((writing_at free frame_of listed n).left ≡ []))
     × ((writing_at free frame_of listed n).codes ≡ [] → (writing_at free frame_of listed n).left ≡ [] → AllStand free frame_of listed n)
 
--- where packet n is the first that isn't ended behind so many slots, those before it stand in them, and it finds no so_far there
+-- where packet n is the first that isn't ended after this many slots, those before it stand in them, and it finds no so_far there
 abbrev pub LacksRoom : (ℕ → Bool) → (ℕ → ℕ) → List Listed → ℕ → Option ℕ → Type 0
 LacksRoom free frame_of listed n None = AllStand free frame_of listed n
 LacksRoom free frame_of listed n (Some number) = AllStand free frame_of (take (number - 1) listed) n × (AllStand free frame_of (take number listed) n → ⊥)

@@ -18,6 +18,6 @@ pub record IsState (one two : State) : Type 0 where
   pub label : one.label ≡ two.label
   pub under_way : (class : ℕ) → one.under_way class ≡ two.under_way class
 
--- it stands behind these pairs of field 2
+-- it follows these pairs of field 2
 abbrev pub HasRead : List Pair → XdsReader → Type 0
 HasRead pairs reader = StandsAt (map code_of pairs) (state_of reader)

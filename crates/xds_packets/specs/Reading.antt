@@ -1,6 +1,6 @@
 -- Believed: the program's answer stands on these definitions.
 -- The packets of extended data in the pairs of field 2 (CTA-608-E, 47 CFR 79.101). A packet of a class and a type ends at an end pair that closes
--- a segment of these, where the last start pair of the class has the type, no earlier end pair behind it closed such a segment, and the
+-- a segment of these, where the last start pair of the class has the type, no earlier end pair after it closed such a segment, and the
 -- segments of the class and type since then have at most 32 bytes, which the end pair's second byte sums up.
 use Rattle.std.specs.Prelude.{ℕ, ◌+◌, ◌*◌, ◌%◌, ◌==◌, ◌&&◌, nat_le, not, Bool, if◌then◌else◌, List, [], ◌∷◌, ◌++◌, length, map, Option, Some, None}
 use Rattle.std.specs.List.{filter, list_any, sum}
@@ -35,7 +35,7 @@ abbrev pub closed_by : Option Segment → List Segment → ℕ → Option XdsPac
 closed_by None segments check = None
 closed_by (Some segment) segments check = judged segment.class segment.kind (of_packet segment.class segment.kind segments) check
 
--- the packet that ends at a code, behind these codes: only an end pair ends one, of the segment that is open before it
+-- the packet that ends at a code, after these codes: only an end pair ends one, of the segment that is open before it
 abbrev pub ends_at : List Code → Code → Option XdsPacket
 ends_at before Null = None
 ends_at before (Text first second) = None
@@ -46,7 +46,7 @@ abbrev pub listed : Option XdsPacket → List XdsPacket
 listed None = []
 listed (Some packet) = packet ∷ []
 
--- the packets that end in the codes, behind those before
+-- the packets that end in the codes, after those before
 abbrev pub packets_behind : List Code → List Code → List XdsPacket
 packets_behind before [] = []
 packets_behind before (code ∷ codes) = listed (ends_at before code) ++ packets_behind (before ++ code ∷ []) codes

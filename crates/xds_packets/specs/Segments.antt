@@ -6,7 +6,7 @@ use Rattle.std.specs.List.{filter, flat_map, list_any}
 use Rattle.line21_codes.specs.declared.codes.Code.{Code}
 use Rattle.line21_codes.specs.declared.codes.Code.TheVariants.{Null, Text, Xds, Control}
 
--- the class and the type that its first pair says, whether that is a start pair, the bytes behind it, and the pair that ended it, if one has
+-- the class and the type that its first pair says, whether that is a start pair, the bytes after it, and the pair that ended it, if one has
 pub record Segment : Type 0 where
   pub class : ℕ
   pub kind : ℕ
@@ -38,7 +38,7 @@ data_bytes (Text first second) = filter (nat_le 0x20) (first ∷ second ∷ [])
 data_bytes (Xds first second) = []
 data_bytes (Control second control) = []
 
--- the segment that a pair opens, with the pairs behind it: first bytes 01, 03 .. 0D start a packet of the classes 1 to 7, and 02, 04 .. 0E
+-- the segment that a pair opens, with the pairs after it: first bytes 01, 03 .. 0D start a packet of the classes 1 to 7, and 02, 04 .. 0E
 -- continue one
 abbrev pub opened : Code → List Code → List Segment
 opened Null codes = []

@@ -1,5 +1,5 @@
 -- Believed in part: the program's answer stands on some of these definitions.
--- The slots in which packets are sent, slot by slot: whole packet after whole packet, each pair in the next free slot, and behind a slot that
+-- The slots in which packets are sent, slot by slot: whole packet after whole packet, each pair in the next free slot, and after a slot that
 -- isn't free the packet's continue pair first.
 use Rattle.std.specs.Prelude.{ℕ, zero, suc, ◌-◌, nat_le, Bool, true, false, if◌then◌else◌, List, [], ◌∷◌, ◌++◌, length, map, Option, Some, None}
 use Rattle.line21_codes.specs.declared.codes.Code.{Code}
@@ -20,7 +20,7 @@ pub record Unsent : Type 0 where
   pub codes : List Code
   pub broken : Bool
 
--- what is sent in a slot, and what is left behind it
+-- what is sent in a slot, and what is left after it
 pub record Given : Type 0 where
   pub next : Unsent
   pub code : Option Code
@@ -47,7 +47,7 @@ given_in true frame s = sent_on s.broken frame s s.codes
 abbrev pub new_writing : List Listed → Unsent
 new_writing listed = record { left = listed; cont = Null; codes = []; broken = false }
 
--- what is left behind so many slots
+-- what is left after this many slots
 abbrev pub writing_at : (ℕ → Bool) → (ℕ → ℕ) → List Listed → ℕ → Unsent
 writing_at free frame_of listed zero = new_writing listed
 writing_at free frame_of listed (suc n) = (given_in (free n) (frame_of n) (writing_at free frame_of listed n)).next
@@ -60,7 +60,7 @@ code_or (Some code) other = code
 abbrev pub column : (ℕ → Bool) → (ℕ → ℕ) → (ℕ → Code) → List Listed → ℕ → Code
 column free frame_of others listed n = code_or (given_in (free n) (frame_of n) (writing_at free frame_of listed n)).code (others n)
 
--- the codes of so many slots
+-- the codes of this many slots
 abbrev pub codes_to : (ℕ → Bool) → (ℕ → ℕ) → (ℕ → Code) → List Listed → ℕ → List Code
 codes_to free frame_of others listed zero = []
 codes_to free frame_of others listed (suc n) = codes_to free frame_of others listed n ++ column free frame_of others listed n ∷ []
@@ -77,6 +77,6 @@ abbrev pub first_of : ℕ → ℕ → Option ℕ
 first_of total zero = None
 first_of total (suc count) = Some (total - count)
 
--- the number, from 1, of the first packet that isn't ended, of so many
+-- the number, from 1, of the first packet that isn't ended, of this many
 abbrev pub unfinished : ℕ → Unsent → Option ℕ
 unfinished total s = first_of total (unended s.codes s.left)

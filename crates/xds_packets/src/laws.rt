@@ -35,7 +35,7 @@ pub fn unfinished_is_first()
     ensures { UnfinishedIsFirst }
 {}
 
-/// Each further pair of a packet stands in the next free slot, behind a continue pair where the slot before isn't free.
+/// Each further pair of a packet stands in the next free slot, after a continue pair where the slot before isn't free.
 pub fn pairs_stand_in_the_next_free_slots()
     ensures { PairsStandInTheNextFreeSlots }
 {}
@@ -45,12 +45,12 @@ pub fn standing_is_given()
     ensures { StandingIsGiven }
 {}
 
-/// Behind so many slots all packets are ended exactly where all stand in them.
+/// After this many slots all packets are ended exactly where all stand in them.
 pub fn over_where_all_stand()
     ensures { OverWhereAllStand }
 {}
 
-/// Where a packet is the first that isn't ended behind so many slots, those before it stand in them, and it finds no room there.
+/// Where a packet is the first that isn't ended after this many slots, those before it stand in them, and it finds no room there.
 pub fn unfinished_lacks_room()
     ensures { UnfinishedLacksRoom }
 {}

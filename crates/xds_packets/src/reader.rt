@@ -13,7 +13,7 @@ use crate::texts::XdsText;
 use crate::under_way::{UnderWay, finish, grown};
 use line21_codes::{Code, Pair, read_pair};
 
-/// Reads packets out of the pairs of field 2, one pair behind the other (CTA-608-E, 47 CFR 79.101).
+/// Reads packets out of the pairs of field 2, one pair after the other (CTA-608-E, 47 CFR 79.101).
 #[derive(Drop)]
 pub struct XdsReader {
     segment: Option<OpenSegment>,

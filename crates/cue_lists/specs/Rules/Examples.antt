@@ -45,11 +45,11 @@ pop channel load show hide = example_cue (kind.Pop channel) load show (Some hide
 abbrev pub paint : Chan → ℕ → ℕ → ℕ → Cue
 paint channel load show hide = example_cue (kind.Paint channel) load show (Some hide) example_letter
 
--- a roll-up cue of so many rows
+-- a roll-up cue of this many rows
 abbrev pub roll : Chan → ℕ → ℕ → ℕ → Option ℕ → Cue
 roll channel rows load show hide = example_cue (kind.Roll channel rows) load show hide example_letter
 
--- a pop-on cue of the white letters AB, and a red C right behind them
+-- a pop-on cue of the white letters AB, and a red C right after them
 abbrev pub white_then_red : Cue
 white_then_red = example_cue (kind.Pop chan.Cc1) 0 7 (Some 20)
     (example_run colour.White 15 0 (65 ∷ 66 ∷ []) ∷ example_run colour.Red 15 2 (67 ∷ []) ∷ [])

@@ -18,7 +18,7 @@ use Rattle.cue_types.specs.declared.cue.Cue.{Cue}
 use Rattle.line21_slots.specs.Cadences.{cadence_of, has_slot_in, slot_step}
 use Rattle.line21_slots.specs.declared.cadence.Cadence.{Cadence}
 
--- what the rules ask of a cue on a channel by itself, in a list of so many frames; a step is that from slot to slot
+-- what the rules ask of a cue on a channel by itself, in a list of this many frames; a step is that from slot to slot
 pub record IsSound (step frames : ℕ) (cue : Cue) : Type 0 where
   -- Order: LOAD is below SHOW
   pub loaded : cue.load < cue.show
@@ -26,7 +26,7 @@ pub record IsSound (step frames : ℕ) (cue : Cue) : Type 0 where
   pub hidden : IfSome cue.hide (λ hide. cue.show < hide)
   -- Overlap: no two of its runs write one cell, lead cells counted
   pub apart : have_shared_cell cue.runs ≡ false
-  -- Clash: a pop-on cue's HIDE is two steps behind SHOW or later, as the code that shows it is repeated a step on
+  -- Clash: a pop-on cue's HIDE is two steps after SHOW or later, as the code that shows it is repeated a step on
   pub stays : is_pop cue.kind ≡ true → IfSome cue.hide (λ hide. cue.show + 2 * step ≤ hide)
   -- PastEnd: HIDE and the step to its repeat lie before the end; where HIDE is empty, SHOW does
   pub ended : MatchOption cue.hide (cue.show < frames) (λ hide. hide + step + 1 ≤ frames)
@@ -43,7 +43,7 @@ pub record ComesAfter (step : ℕ) (former cue : Cue) : Type 0 where
   pub loaded : former.show ≤ cue.load
   -- Overlap: SHOW isn't below the former cue's HIDE
   pub shown : IfSome former.hide (λ hide. hide ≤ cue.show)
-  -- Clash: a pop-on cue's SHOW is the former cue's HIDE, or two steps behind it or later, as the code that hides is repeated
+  -- Clash: a pop-on cue's SHOW is the former cue's HIDE, or two steps after it or later, as the code that hides is repeated
   pub apart : is_pop cue.kind ≡ true → IfSome former.hide (λ hide. hide < cue.show → hide + 2 * step ≤ cue.show)
   -- Unhidden: the LOAD of a paint-on or roll-up cue, which is written onto the screen, isn't below the former cue's HIDE
   pub cleared : is_pop cue.kind ≡ false → IfSome former.hide (λ hide. hide ≤ cue.load)

@@ -22,7 +22,7 @@ use Rattle.cue_lists.specs.Rules.OffSlot.{off_slot}
 use Rattle.line21_slots.specs.Cadences.{slot_step}
 
 -- the rules in the order in which they are tried, each with whom a cue breaks it against, if it does: the cue stands
--- behind these cues, the newest first
+-- after these cues, the newest first
 unfoldable pub verdicts : Listing → List Cue → Cue → List (Why × Option Against)
 verdicts list earlier cue =
     (why.Order, first_broken (order list.rate cue (former_cue cue earlier)))
@@ -42,7 +42,7 @@ other_of against.Itself former = None
 other_of against.Former former = former
 other_of (against.Earlier number) former = Some number
 
--- the fault of a rule, where it is broken, or else that of the rules behind it
+-- the fault of a rule, where it is broken, or else that of the rules after it
 abbrev pub fault_or : Why → Option Against → ℕ → Option ℕ → Option RuleFault → Option RuleFault
 fault_or why None cue former later = later
 fault_or why (Some against) cue former later =
@@ -53,7 +53,7 @@ abbrev pub first_fault : ℕ → Option ℕ → List (Why × Option Against) →
 first_fault cue former [] = None
 first_fault cue former ((why, against) ∷ later) = fault_or why against cue former (first_fault cue former later)
 
--- the fault of a cue behind these cues, the newest first
+-- the fault of a cue after these cues, the newest first
 abbrev pub fault_of : Listing → List Cue → Cue → Option RuleFault
 fault_of list earlier cue = first_fault (length earlier + 1) (former_number cue earlier) (verdicts list earlier cue)
 

@@ -15,7 +15,7 @@ pub fn hidden_at_once()
     ensures { HasFault (example_list (pop chan.Cc1 0 7 8 ∷ [])) (fault why.Clash 1 None) }
 {}
 
-/// The last event of a cue, sent twice, ends behind the last frame.
+/// The last event of a cue, sent twice, ends after the last frame.
 pub fn hidden_past_end()
     ensures { HasFault (example_list (pop chan.Cc1 0 7 99 ∷ [])) (fault why.PastEnd 1 None) }
 {}
@@ -77,7 +77,7 @@ pub fn delay_kept_clear()
         (fault why.DelayCovers 2 (Some 1)) }
 {}
 
-/// The delay of a window starts behind its LOAD, and the cues of a service load in their order.
+/// The delay of a window starts after its LOAD, and the cues of a service load in their order.
 pub fn windows_loaded_in_order()
     ensures started { HasFault (window_list (window 0 30 60 120 10 ∷ [])) (fault why.Order 1 None) }
     ensures loaded { HasFault (window_list (window 0 10 60 120 0 ∷ window 1 9 70 130 0 ∷ []))

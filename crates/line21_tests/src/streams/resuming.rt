@@ -5,7 +5,7 @@ ghost use Rattle.cc_base.specs.declared.why.Why.TheVariants as why;
 use cc_base::laws::{law_of_pieces, refusals_are_of_the_first_refused_item};
 use cc_base::{Fed, Machine, Refusal, Resume, Step, Upward, Why, feed_pieces};
 
-// Decimal numbers modulo 2^16, each ended by a comma, or by a semicolon, which makes another part 65535 behind it. Two bytes
+// Decimal numbers modulo 2^16, each ended by a comma, or by a semicolon, which makes another part 65535 after it. Two bytes
 // have one place.
 #[derive(Clone, Copy)]
 struct Numbers {

@@ -7,7 +7,7 @@ const LOWEST: u8 = 0x01;
 
 const COUNTS: u8 = 0x04;
 
-// A frame that is beside the one before it in any one byte says what its own bytes say, and so do the frames behind it, which
+// A frame that is beside the one before it in any one byte says what its own bytes say, and so do the frames after it, which
 // are like one another. They are fed byte by byte, frame by frame, and two at once.
 #[test]
 fn frames_beside_one_another_are_read(rt: HostRuntime) -> Result<(), AllocError> {

@@ -3,7 +3,7 @@ use Rattle.frame_carrier.specs.Columns.{Columns}
 use Rattle.frame_carrier.specs.Frames.{GivesFrom, frames_left}
 use Rattle.live_frames.proofs.live.skipped.Given as goal
 
--- so many frames are passed
+-- this many frames are passed
 abbrev pub invariant-loop : goal.invariant-loop
 invariant-loop l = record {
   left : frames_left l.plan ≡ frames_left l.initial.plan - l.counter;

@@ -2,7 +2,7 @@ use Rattle.std.proofs.Common.{length, take, ◌-◌, ◌≡◌, ◌≤◌}
 use Rattle.std.specs.Io.KnownBytes.{Appends}
 use Rattle.cc_base.proofs.adapters.WriterSinkSink.put.Given as goal
 
--- so many bytes of the piece were written, and no fault came
+-- this many bytes of the piece were written, and no fault came
 abbrev pub invariant-loop-at : goal.invariant-loop-at
 invariant-loop-at g l = (l.at ≤ length l.bytes) × (l.self.faults ≡ l.initial.self.faults)
     × Appends (g.W.Write.contents l.initial.self.inner) (g.W.Write.contents l.self.inner) (take l.at l.bytes)

@@ -3,7 +3,7 @@ use Rattle.cc_receiver.specs.Receivers.{HasReceived, frame_count, receiver_refus
 use Rattle.cc_receiver.proofs.FeedLemmas.{Underway}
 use Rattle.cc_receiver.proofs.receiver.Receiver.feed.Given as goal
 
--- no refusal is kept, no frame was counted, and whatever the receiver was fed before, so many of the bytes were read
+-- no refusal is kept, no frame was counted, and whatever the receiver was fed before, this many of the bytes were read
 abbrev pub invariant-loop-used : goal.invariant-loop-used
 invariant-loop-used l = record {
   within : l.used ≤ length l.bytes;

@@ -5,7 +5,7 @@ use Rattle.service_blocks.specs.Channels.{IsHeard}
 use Rattle.cc_receiver.specs.Serving.{HasServed, followed_by, given_by}
 use Rattle.cc_receiver.proofs.services.Served.frame.Given as goal
 
--- the frame is counted, and so many of its triplets were taken
+-- the frame is counted, and this many of its triplets were taken
 abbrev pub invariant-loop-triplet : goal.invariant-loop-triplet
 invariant-loop-triplet l = record {
   few : all_ticks l.fn.self.services < 4294967295;

@@ -7,7 +7,7 @@ use Rattle.lanes.specs.declared.cue_load.CueLoad.{CueLoad}
 use Rattle.lanes.proofs.FillLemmas.{filled}
 use Rattle.lanes.proofs.placing.Placing.fill.Given as goal
 
--- the units up to the index have so many bytes, which the frame has, and may be placed in it
+-- the units up to the index have this many bytes, which the frame has, and may be placed in it
 abbrev pub invariant-loop-index : goal.invariant-loop-index
 invariant-loop-index l = record {
   from : l.self.last.units ≤ l.index;

@@ -2,6 +2,6 @@ use Rattle.std.proofs.Common.{◌≡◌, None}
 use Rattle.std.proofs.Math.ListN.{replicate}
 use Rattle.line21_screen.proofs.memory.Memory.new.Given as goal
 
--- so many places, without a cell
+-- this many places, without a cell
 abbrev pub invariant-loop : goal.invariant-loop
 invariant-loop l = l.cells.items ≡ replicate l.counter None
