@@ -34,7 +34,7 @@ from typing import NamedTuple
 NAME = pathlib.Path(sys.argv[0]).name
 RATES = {"29.97": Fraction(30000, 1001), "30": Fraction(30), "59.94": Fraction(60000, 1001), "60": Fraction(60)}
 COLUMNS, ROWS, WINDOW_ROWS = 32, 15, 12
-USAGE, NO_ROOM = 1, 8
+NO_ROOM = 8
 # What stands for a character that a system lacks, if taking its accents away doesn't do.
 NEAREST = {
     "‘": "'", "’": "'", "‚": ",", "‛": "'", "`": "'", "´": "'", "“": '"', "”": '"', "„": '"', "‟": '"', "‹": "<", "›": ">", "–": "-", "—": "-",
@@ -638,30 +638,7 @@ def fitted(head, cues, late):
     rate, shares = head
     frames = max(it.hide for it in cues) + 60
     text = spelled(rate, frames, [*shares, *(record for it in cues for record in it.records())])
-    answer = run_ccsuite(["fit", str(late)], text)
-    return fitted_by_build(rate, frames, shares, cues, late) if answer[0] == USAGE else answer
-
-
-def fitted_by_build(rate, frames, shares, cues, late):
-    """The same by a `ccsuite` without `fit`: the cue that `build` names is shown a slot later, until it names none."""
-    wanted, step = [it.show for it in cues], 1 + (RATES[rate] > 31)
-    while True:
-        text = spelled(rate, frames, [*shares, *(record for it in cues for record in it.records())])
-        ran = subprocess.run(["ccsuite", "build"], input=text.encode(), stdout=subprocess.DEVNULL, stderr=subprocess.PIPE)
-        if ran.returncode != NO_ROOM:
-            said = ran.stderr.decode().strip()
-            return run_ccsuite(["cues"], text) if ran.returncode == 0 else (ran.returncode, "", said)
-        place = int(re.search(r"\d+$", ran.stderr.decode().strip())[0]) - 1
-        cue, lane = cues[place], cues[place].head[:2]
-        before = next((it for it in reversed(cues[:place]) if it.head[:2] == lane), None)
-        after = next((it for it in cues[place + 1:] if it.head[:2] == lane), None)
-        is_chained, cue.show = before and before.hide == cue.show, cue.show + step
-        if cue.show > wanted[place] + late or cue.hide < cue.show + 2 * step:
-            return NO_ROOM, "", ran.stderr.decode().strip()
-        if is_chained and cue.head[0] == "pop":
-            before.hide = cue.show
-        if after and cue.head[0] == "pop":
-            after.load = max(after.load, cue.show)
+    return run_ccsuite(["fit", str(late)], text)
 
 
 def shows_of(text):
