@@ -17,6 +17,7 @@ with the heap's threshold at 0, each allocation is one call of `mmap`. It prints
 1 at the first run that differs.
 """
 
+import io
 import os
 import pathlib
 import re
@@ -58,7 +59,7 @@ class Case:
 
     @property
     def reads_nothing(self):
-        return self.words[:1] == ["load"] or self.status == 1 or self.listed is not None and self.status in (7, 8) and self.words[0] not in ("dual", "xds")
+        return self.words[:1] in (["load"], ["help"], ["version"]) or self.status == 1 or self.listed is not None and self.status in (7, 8) and self.words[0] not in ("dual", "xds")
 
     @property
     def streams(self):
@@ -368,13 +369,13 @@ def built(text):
 
 def with_field_two(words, pairs):
     """Words as `build` writes them, whose first frames have these pairs of field 2 in place of their own."""
-    packets, place = bytearray(cdp.from_words(words)), 0
+    packets, place = bytearray(b"".join(cdp.from_words(io.BytesIO(words)))), 0
     for it in range(0, len(pairs), 2):
         end = place + packets[place + 2]
         packets[place + 13:place + 15] = pairs[it:it + 2]
         packets[end - 1] = -sum(packets[place:end - 1]) % 256
         place = end
-    return cdp.to_words(bytes(packets))
+    return b"".join(cdp.to_words(io.BytesIO(packets)))
 
 
 def commands():
@@ -400,6 +401,9 @@ def commands():
     yield "pairs", [Case(["pairs"], hello), Case(["pairs"], double), Case(["pairs"], *off_slot)] + [Case(["pairs"], *it) for it in lists], [1, 7, 4096]
     yield "build", [Case(["build"], hello), Case(["build"], double)] + [Case(["build"], *it) for it in lists], [1, 7, 4096]
     yield "cues", [Case(["cues"], hello)] + [Case(["cues"], *it) for it in lists[1:]] + [Case(["cues"], dense)], [1, 7, 4096]
+    yield "fit", [
+        Case(["fit", "45"], hello), Case(["fit", "1"], dense), Case(["fit", "0"], dense, 8, b"no room: cue 1\n"), Case(["fit", "0"], double),
+    ] + [Case(["fit", "45"], *it) for it in lists[1:]], [1, 7, 4096]
     decode = ["decode"]
     yield "decode", [
         Case(decode, words), Case(decode, mixed), Case(decode, b""), Case(decode, words[:900], 6, b"malformed at byte 900: Truncated\n"),
@@ -475,6 +479,7 @@ def commands():
     ], [160, 4096]
     yield "import-mcc a byte at a time", [Case(["import-mcc"], mcc_of(silent[:320]))], [1, 7]
     yield "load", [Case(["load", "3"], b"")], []
+    yield "help and version", [Case(["help"], b""), Case(["help", "fit"], b""), Case(["version"], b"")], []
 
 
 # ---- Limits ----------------------------------------------------------------------------------------------------------------------
