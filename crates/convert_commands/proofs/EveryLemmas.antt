@@ -36,7 +36,7 @@ use Rattle.windows_decided.proofs.SeenLemmas.{windows_decided}
 use Rattle.windows_decided.specs.Decided.{Decided}
 use Rattle.words_files.specs.FramesOf.{AreFramesOf}
 use Rattle.words_reading.proofs.EveryLemmas.{HaltsIn, IsSaid, every_words}
-use Rattle.words_reading.proofs.FrameFrontLemmas.{frames_judged}
+use Rattle.words_reading.proofs.WalkLemmas.{frames_judged}
 use Rattle.words_reading.proofs.WordsLemmas.{said_of}
 use Rattle.words_reading.specs.FrameTexts.{FramesHalt}
 

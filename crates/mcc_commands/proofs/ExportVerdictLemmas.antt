@@ -16,7 +16,7 @@ use Rattle.findings.specs.declared.finding.Finding.{Finding}
 use Rattle.findings.specs.declared.finding.Kind45.{Kind45}
 use Rattle.findings.specs.declared.finding.Kind45.TheVariants as kind
 use Rattle.command_base.specs.Exact.{IsOne}
-use Rattle.words_reading.proofs.FrameFrontLemmas.{words_bytes}
+use Rattle.words_reading.proofs.WalkLemmas.{words_bytes}
 use Rattle.words_reading.proofs.OneLemmas.{words_one}
 use Rattle.words_reading.proofs.PacketEndLemmas.{file_under}
 use Rattle.services_files.specs.CaptionChannel.{caption_channel}

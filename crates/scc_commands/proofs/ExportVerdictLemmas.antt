@@ -5,7 +5,7 @@ use Rattle.words_files.specs.Offences.{IsFileUnder}
 use Rattle.command_base.specs.Exact.{HasVerdict, IsFault, IsOne}
 use Rattle.words_reading.proofs.EveryLemmas.{HaltsIn, IsSaid, every_words}
 use Rattle.words_reading.proofs.WordsLemmas.{said_of}
-use Rattle.words_reading.proofs.FrameFrontLemmas.{frames_judged}
+use Rattle.words_reading.proofs.WalkLemmas.{frames_judged}
 use Rattle.words_reading.proofs.HaltLemmas.{frames_one, halted_at, said_fit}
 use Rattle.std.proofs.lemmas.Bool.{cases_lt}
 use Rattle.std.specs.Prelude.{◌≢◌}

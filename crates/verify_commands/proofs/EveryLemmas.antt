@@ -19,7 +19,7 @@ use Rattle.verify_commands.specs.VerifyVerdict.{FindsNothing, VerifyEnd, VerifyH
 use Rattle.words_files.specs.FramesOf.{AreFramesOf}
 use Rattle.words_files.specs.Offences.{IsFileUnder}
 use Rattle.words_reading.proofs.EveryLemmas.{HaltsIn, IsSaid, every_words}
-use Rattle.words_reading.proofs.FrameFrontLemmas.{frames_judged}
+use Rattle.words_reading.proofs.WalkLemmas.{frames_judged}
 use Rattle.words_reading.proofs.WordsLemmas.{said_of}
 use Rattle.words_reading.specs.FrameTexts.{FramesHalt}
 use Rattle.words_reading.specs.WordsVerdict.{WordsVerdict}

@@ -16,6 +16,5 @@ pub mod PacketWayLemmas
 pub mod WordsLemmas
 pub mod OneLemmas
 pub mod HaltLemmas
-pub mod FrameFrontLemmas
 pub mod EveryLemmas
 pub mod WalkLemmas

@@ -1,19 +1,34 @@
 -- A words file packet by packet: what is good of a file and of a packet after it is good of both, or a run stops with the packet; so it is good
--- of a whole file, or a run stops within it.
-use Rattle.std.proofs.Common.{◌≡◌, ◌∙◌, ◌⊎◌, ◌++◌, ◌∷◌, ap, append_assoc, append-nil, arith, inl, inr, refl, subst, sym, ℕ, List, []}
+-- of a whole file, or a run stops within it. So frames are all fit, or a first one is a reason to stop.
+use Rattle.std.proofs.Common.{◌≡◌, ◌∙◌, ◌<◌, ◌⊎◌, ◌++◌, ◌∷◌, ap, append_assoc, append-nil, arith, inl, inr, refl, subst, sym, ℕ, List, []}
+use Rattle.std.specs.List.{All}
+use Rattle.std.proofs.lemmas.List.Elements.{All-cons, All-nil}
 use Rattle.anc_words.proofs.WordsFileLemmas.{IsWordsFile-first, IsWordsFile-nil, IsWordsFile-one}
 use Rattle.anc_words.specs.Packets.{AncillaryPacket, IsCaption, user_bytes}
 use Rattle.anc_words.specs.Words.{AreWords}
 use Rattle.anc_words.specs.WordsFiles.{IsPacketBytes, IsWordsFile}
 use Rattle.cdp_packets.specs.Packets.{Frame, IsCdp}
+use Rattle.command_base.specs.declared.status.Status.{Status}
 use Rattle.cc_receiver.specs.CaptionChannel.{caption_channel}
 use Rattle.words_files.proofs.FrameLemmas.{joined, one_list}
+use Rattle.words_files.proofs.FramesOfLemmas.{file_frames}
 use Rattle.words_files.proofs.WordLemmas.{AreWords-whole}
 use Rattle.words_files.specs.Frames.{CarryFrames, IsFileOf}
 use Rattle.words_files.specs.Frames.CarryFrames.{caption, foreign, none}
+use Rattle.words_files.specs.FramesOf.{AreFramesOf}
 use Rattle.words_files.specs.Offences.{IsFileUnder, IsUnoffending}
-use Rattle.words_reading.proofs.FrameFrontLemmas.{words_bytes}
 use Rattle.words_reading.proofs.PacketEndLemmas.{file_under}
+use Rattle.words_reading.specs.FrameTexts.{FramesHalt}
+
+-- words are bytes
+pub words_bytes : (bytes words : List ℕ) → AreWords bytes words → All (λ b. b < 256) bytes
+words_bytes [] [] are = All-nil (λ b. b < 256)
+words_bytes [] (word ∷ words) are = absurd are
+words_bytes (high ∷ []) words are = absurd are
+words_bytes (high ∷ low ∷ bytes) [] are = absurd are
+words_bytes (high ∷ low ∷ bytes) (word ∷ words) (is, are) =
+    let small = is.zeros in
+    All-cons (λ b. b < 256) high (low ∷ bytes) (omega arith) (All-cons (λ b. b < 256) low bytes is.byte (words_bytes bytes words are))
 
 -- no words are no bytes
 no_words : (bytes words : List ℕ) → AreWords bytes words → words ≡ [] → bytes ≡ []
@@ -98,3 +113,45 @@ module _ (IsGood : List Frame → List ℕ → Type 0) (Stops : List ℕ → Typ
     pub walk : (frames : List Frame) (bytes : List ℕ) → IsGood [] [] → IsFileUnder caption_channel frames bytes → Walked frames bytes
     walk frames bytes good whole =
         walk_from whole.file.packets [] frames frames [] bytes (record { packets = []; file = IsWordsFile-nil; carried = none }) good whole.file.carried whole.file.file whole
+
+-- where each frame is fit after fit ones or is a reason to stop, all frames of bytes are fit, or a run halts at the first that is a reason
+module _ (AreFit : List Frame → Type 0) (IsReason : Status → List Frame → Frame → Type 0) (fit_none : AreFit [])
+    (decides : (earlier : List Frame) (last : Frame) → AreFit earlier → AreFit (earlier ++ last ∷ []) ⊎ ((answer : Status) × IsReason answer earlier last))
+    (text_of : List Frame → List ℕ) where
+  abbrev Fit : List Frame → List ℕ → Type 0
+  Fit frames file = AreFit frames
+
+  abbrev Halts : List ℕ → Type 0
+  Halts judged = (answer : Status) × (text : List ℕ) × FramesHalt text_of AreFit (IsReason answer) judged text
+
+  after_foreign : (frames : List Frame) (file bytes : List ℕ) (packet : AncillaryPacket) → Fit frames file → IsPacketBytes packet bytes → (IsCaption packet → ⊥)
+      → IsFileUnder caption_channel frames (file ++ bytes) → IsUnoffending caption_channel (file ++ bytes) → Fit frames (file ++ bytes) ⊎ Halts (file ++ bytes)
+  after_foreign frames file bytes packet fit is isnt under fine = inl fit
+
+  after_caption : (frames : List Frame) (last : Frame) (file bytes : List ℕ) (packet : AncillaryPacket) → Fit frames file → IsPacketBytes packet bytes → IsCaption packet
+      → IsCdp last (user_bytes packet) → IsFileUnder caption_channel (frames ++ last ∷ []) (file ++ bytes) → IsUnoffending caption_channel (file ++ bytes)
+      → Fit (frames ++ last ∷ []) (file ++ bytes) ⊎ Halts (file ++ bytes)
+  after_caption frames last file bytes packet fit is is_caption carries under fine = elim (decides frames last fit) [
+    | inl more ↦ inl more
+    | inr (answer, reason) ↦ inr (
+      answer,
+      text_of frames,
+      record {
+        frames = frames;
+        last = last;
+        frames_are = file_frames caption_channel (frames ++ last ∷ []) (file ++ bytes) under;
+        fit = fit;
+        is = reason;
+        text_is = refl;
+        unoffending = fine;
+      },
+    )
+  ]
+
+  pub frames_judged : (bytes : List ℕ) (frames : List Frame) → AreFramesOf caption_channel frames bytes
+      → AreFit frames ⊎ ((answer : Status) × (text judged rest : List ℕ) × (bytes ≡ judged ++ rest) × FramesHalt text_of AreFit (IsReason answer) judged text)
+  frames_judged bytes frames are = elim (walk Fit Halts after_foreign after_caption frames are.file fit_none are.is_file) [
+    | inl fit ↦ inl fit
+    | inr (judged, rest, is, (answer, text, halts)) ↦
+        inr (answer, text, judged, rest ++ are.behind, are.spelled ∙ (ap (λ b. b ++ are.behind) is ∙ append_assoc judged rest are.behind), halts)
+  ]
