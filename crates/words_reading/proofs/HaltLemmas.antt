@@ -1,5 +1,5 @@
 -- A command that may stop at a frame makes one status of words, where a frame is a reason for one, and none among frames without.
-use Rattle.std.proofs.Common.{◌∙◌, ◌<◌, ◌≤◌, ◌⊎◌, ap, inl, inr, ◌≡◌, ◌++◌, ◌∷◌, arith, false, length, refl, subst, sym, true, ℕ, Bool, List, []}
+use Rattle.std.proofs.Common.{◌∙◌, ◌<◌, ◌≤◌, ◌⊎◌, inl, inr, ◌≡◌, ◌++◌, ◌∷◌, arith, false, length, refl, subst, sym, true, ℕ, Bool, List, []}
 use Rattle.std.specs.Prelude.{nat_le}
 use Rattle.cdp_packets.specs.Packets.{Frame}
 use Rattle.command_base.specs.declared.status.Status.{Status}
