@@ -1,4 +1,4 @@
--- Believed in part: the program's answer stands on some of these definitions.
+-- Between crates: the program's answer stands on none of these definitions.
 -- The slots that a unit takes: one, or two where it is doubled (CTA-608-E, 47 CFR 79.101).
 use Rattle.std.specs.Prelude.{ℕ, if◌then◌else◌, Option, Some, None}
 use Rattle.line21_codes.specs.declared.pairs.Pair.{Pair}
