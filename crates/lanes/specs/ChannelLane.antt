@@ -1,4 +1,4 @@
--- Believed: the program's answer stands on these definitions.
+-- Believed in part: the program's answer stands on some of these definitions.
 -- The lane of a line 21 channel: the units of its cues, with what each cue asks of their place, and its events. The times of the
 -- cues are in slots of the channel's field.
 use Rattle.std.specs.Prelude.{ℕ, suc, if◌then◌else◌, List, [], ◌∷◌, ◌++◌, map}

@@ -1,14 +1,13 @@
 -- Believed: the program's answer stands on these definitions.
 -- A field's lane: where a unit of a cue may stand in line 21 (CTA-608-E, 47 CFR 79.101).
-use Rattle.std.specs.Prelude.{ℕ, ◌+◌, ◌<◌, ◌≤◌, List, fold}
+use Rattle.std.specs.Prelude.{ℕ, ◌+◌, ◌<◌, ◌≤◌, if◌then◌else◌, List, fold}
 use Rattle.line21_author.specs.declared.event.Event.{Event}
 use Rattle.lanes.specs.declared.chunk.FieldChunk.{FieldChunk}
 use Rattle.lanes.specs.LaneEvents.{IsFree}
-use Rattle.line21_author.specs.UnitSlots.{unit_slots}
 
--- the slots of a chunk's unit
+-- the slots of a chunk's unit: one, or two where it is doubled
 abbrev pub slots_of : FieldChunk → ℕ
-slots_of chunk = unit_slots chunk.unit
+slots_of chunk = if chunk.unit.doubled then 2 else 1
 
 -- the first slot after the units placed so far
 abbrev pub end_of : List (FieldChunk × ℕ) → ℕ

@@ -2,7 +2,7 @@
 -- Room in a lane: whether the units of its cues have a placement.
 use Rattle.std.specs.Prelude.{ℕ, ◌<◌, ◌≤◌, List, [], ◌∷◌, nat_le, ⊤}
 use Rattle.std.specs.List.{filter}
-use Rattle.lanes.specs.Placing.{HasPlacement}
+use Rattle.lanes.specs.Placing.{IsPlaced}
 
 -- each unit is of a cue with this number or a higher one
 abbrev pub AreOfCuesFrom : {U : Type 0} → (U → ℕ) → ℕ → List U → Type 0
@@ -20,7 +20,8 @@ up_to cue_of cue us = filter (λ u. nat_le (cue_of u) cue) us
 
 -- up to the cue there is room: the units of its lane up to its own last one have a placement
 abbrev pub HasRoom : {U : Type 0} → (List (U × ℕ) → U → ℕ → Type 0) → (U → ℕ) → List U → ℕ → Type 0
-HasRoom allowed cue_of us cue = HasPlacement allowed (up_to cue_of cue us)
+HasRoom allowed cue_of us cue =
+    (fs : List ℕ) × IsPlaced allowed [] (filter (λ u. nat_le (cue_of u) cue) us) fs
 
 -- the cue has no room, and it is the first: up to each earlier cue there is room
 pub record IsFirstCrowded {U : Type 0} (allowed : List (U × ℕ) → U → ℕ → Type 0) (cue_of : U → ℕ) (us : List U) (cue : ℕ) : Type 0 where

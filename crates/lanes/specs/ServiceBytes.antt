@@ -18,7 +18,9 @@ loads_at placed frame = flat_map (λ (each : ServiceChunk × ℕ). if each.1 == 
 
 -- the bytes of a frame
 abbrev pub bytes_in : List Caption → List (ServiceChunk × ℕ) → ℕ → List ℕ
-bytes_in cs placed frame = event_bytes frame cs ++ loads_at placed frame
+bytes_in cs placed frame =
+    event_bytes frame cs
+    ++ flat_map (λ (each : ServiceChunk × ℕ). if each.1 == frame then each.0.unit else []) placed
 
 -- the frames are in order, from one on
 abbrev pub AreFramesFrom : ℕ → List ℕ → Type 0

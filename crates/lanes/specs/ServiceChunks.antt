@@ -1,4 +1,4 @@
--- Believed: the program's answer stands on these definitions.
+-- Believed in part: the program's answer stands on some of these definitions.
 -- The units of a service: those of its window cues in file order, each with what its cue asks of its place (CTA-708-E, 7.1).
 use Rattle.std.specs.Prelude.{ℕ, suc, List, [], ◌∷◌, ◌++◌, Option, Some, None, map}
 use Rattle.cc_base.specs.declared.rate.Rate.{Rate}
@@ -8,23 +8,26 @@ use Rattle.dtvcc_author.specs.CueUnits.{window_cue_units}
 use Rattle.dtvcc_author.specs.declared.caption.Caption.{Caption}
 use Rattle.lanes.specs.Chunks.{ServiceChunk}
 
--- a unit of the caption of this number: it stands from LOAD on, and before what shows the caption
-abbrev pub chunk_of : ℕ → Caption → List ℕ → ServiceChunk
-chunk_of number c unit = record { unit = unit; load = c.load; until = c.starts; cue = number }
-
--- the units of a caption, if there is one
+-- the units of the caption of this number, if there is one: they stand from LOAD on, and before what shows the caption
 abbrev pub chunks_with : ℕ → Option Caption → List (List ℕ) → List ServiceChunk
 chunks_with number None units = []
-chunks_with number (Some c) units = map (chunk_of number c) units
+chunks_with number (Some c) units =
+    map (λ unit. record { unit = unit; load = c.load; until = c.starts; cue = number }) units
+
+-- one of them
+abbrev pub chunk_of : ℕ → Caption → List ℕ → ServiceChunk
+chunk_of number c unit = record { unit = unit; load = c.load; until = c.starts; cue = number }
 
 -- the units of the cue of this number, where it is one of the service
 abbrev pub service_cue_chunks : Rate → ℕ → ℕ → Cue → List ServiceChunk
 service_cue_chunks rate service number cue = chunks_with number (caption_of rate service cue) (window_cue_units cue)
 
--- the units of the cues of a service, where the first cue has this number
+-- the units of the cues of a service, where the first cue has this number: of each cue of the service those of its caption
 abbrev pub service_chunks_from : Rate → ℕ → ℕ → List Cue → List ServiceChunk
 service_chunks_from rate service number [] = []
-service_chunks_from rate service number (cue ∷ cues) = service_cue_chunks rate service number cue ++ service_chunks_from rate service (suc number) cues
+service_chunks_from rate service number (cue ∷ cues) =
+    chunks_with number (caption_of rate service cue) (window_cue_units cue)
+    ++ service_chunks_from rate service (suc number) cues
 
 -- the units of the cues of a service, in the order of the cues, which are numbered from 1
 abbrev pub service_chunks : Rate → ℕ → List Cue → List ServiceChunk

@@ -23,9 +23,10 @@ is_between from to frame = nat_le from frame && nat_lt frame to
 abbrev pub bytes_between : ℕ → ℕ → ServiceChunk × ℕ → ℕ
 bytes_between from to placed = if is_between from to placed.1 then chunk_size placed.0 else 0
 
--- the bytes that the placed units have in these frames
+-- the bytes that the placed units have in the frames from `from` on, and before `to`
 abbrev pub used : ℕ → ℕ → List (ServiceChunk × ℕ) → ℕ
-used from to placed = sum_by (bytes_between from to) placed
+used from to placed =
+    sum_by (λ each. if nat_le from each.1 && nat_lt each.1 to then chunk_size each.0 else 0) placed
 
 -- no placed unit follows the frame
 abbrev pub AreUpTo : ℕ → List (ServiceChunk × ℕ) → Type 0

@@ -13,9 +13,9 @@ use Rattle.lanes.specs.declared.service_front.Front.{Front}
 abbrev pub frame_room : ℕ → List Caption → ℕ → ℕ
 frame_room share cs frame = share - length (event_bytes frame cs)
 
--- what the lane of a service allows, with this share of each frame and these captions
+-- what the lane of a service allows, with this share of each frame, less the bytes of its events, and these captions
 abbrev pub caption_lane : ℕ → List Caption → List (ServiceChunk × ℕ) → ServiceChunk → ℕ → Type 0
-caption_lane share cs = IsAllowedInService (frame_room share cs) (delay_end cs)
+caption_lane share cs = IsAllowedInService (λ frame. share - length (event_bytes frame cs)) (delay_end cs)
 
 -- the budget is that of the delay that is on in the frame, less the units in it
 pub record IsSpent (cs : List Caption) (before : List (ServiceChunk × ℕ)) (frame : ℕ) (budget : Budget) : Type 0 where
