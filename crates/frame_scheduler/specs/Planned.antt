@@ -15,14 +15,13 @@ use Rattle.cue_lists.specs.Cadences.{cadence_of, slot_in}
 use Rattle.lanes.specs.CueEvents.{channel_events}
 use Rattle.dtvcc_author.specs.Captions.{service_captions}
 use Rattle.dtvcc_author.specs.declared.caption.Caption.{Caption}
-use Rattle.lanes.specs.ChannelLane.{IsChannelPlaced, channel_chunks, channel_slot}
+use Rattle.lanes.specs.ChannelLane.{channel_chunks, channel_slot}
 use Rattle.frame_scheduler.specs.Columns.{Columns}
 use Rattle.lanes.specs.FieldLane.{field_lane}
-use Rattle.lanes.specs.FieldPlan.{field_chunk_cue}
 use Rattle.lanes.specs.LaneRoom as room
 use Rattle.lanes.specs.Placing.{IsEarliest}
 use Rattle.lanes.specs.ServiceBytes.{bytes_in}
-use Rattle.lanes.specs.ServiceChunks.{service_chunk_cue, service_chunks}
+use Rattle.lanes.specs.ServiceChunks.{service_chunks}
 use Rattle.lanes.specs.ServiceRoom.{caption_lane}
 use Rattle.lanes.specs.Chunks.{ServiceChunk}
 use Rattle.frame_scheduler.specs.Blocks.{service_block}
@@ -49,7 +48,9 @@ service_lane_of list service = caption_lane (share_in list service) (captions_in
 
 -- the units of a lane begin in these slots or stand in these frames, in their earliest placement
 abbrev pub IsLanePlaced : Listing → Lane → List ℕ → Type 0
-IsLanePlaced list (Channel channel) slots = IsChannelPlaced channel (slot_cues list channel) slots
+IsLanePlaced list (Channel channel) slots =
+    IsEarliest (field_lane (channel_events channel (slot_cues list channel)))
+    (channel_chunks channel (slot_cues list channel)) slots
 IsLanePlaced list (Service service) frames = IsEarliest (service_lane_of list service) (chunks_in list service) frames
 
 -- so do those of each lane of a list
@@ -59,8 +60,10 @@ IsListPlaced list placed = (on : Lane) → IsLanePlaced list on (placed on)
 -- the units of a lane up to the cue of this number have a placement
 abbrev pub LaneHasRoom : Listing → Lane → ℕ → Type 0
 LaneHasRoom list (Channel channel) cue =
-    room.HasRoom (field_lane (channel_events channel (slot_cues list channel))) field_chunk_cue (channel_chunks channel (slot_cues list channel)) cue
-LaneHasRoom list (Service service) cue = room.HasRoom (service_lane_of list service) service_chunk_cue (chunks_in list service) cue
+    room.HasRoom (field_lane (channel_events channel (slot_cues list channel))) (λ chunk. chunk.cue)
+    (channel_chunks channel (slot_cues list channel)) cue
+LaneHasRoom list (Service service) cue =
+    room.HasRoom (service_lane_of list service) (λ chunk. chunk.cue) (chunks_in list service) cue
 
 -- the cue of this number is the first without a placement: its lane's units up to it have none, and up to each earlier cue
 -- those of every lane have one
