@@ -1,4 +1,4 @@
-ghost use Rattle.std.specs.Prelude.{◌≡◌, ◌+◌, ◌-◌, ◌^◌, ◌<◌, ◌≤◌, [], true, ℕ, List, IfErr, IfOk, Err};
+ghost use Rattle.std.specs.Prelude.{◌≡◌, ◌+◌, ◌-◌, ◌^◌, ◌<◌, ◌≤◌, [], if◌then◌else◌, ℕ, List, IfErr, IfOk, Err};
 ghost use Rattle.cue_lists.specs.Cues.{IsCueFormed};
 ghost use Rattle.cue_lists.specs.Listing.{Listing};
 ghost use Rattle.cue_lists.specs.Rules.{IsRuled};
@@ -83,7 +83,7 @@ impl Live {
         requires { words.old.items ≡ [] }
         ensures gives { (given : List ℕ) (list : Listing) → IsLive given list self.old
             → GivesFrame given list result words.new.items self.new }
-        ensures counts { result ≡ true → self.new.frame ≡ self.old.frame + 1 }
+        ensures counts { self.new.frame ≡ (if result then self.old.frame + 1 else self.old.frame) }
     {
         if self.frame == self.list.frames() {
             return false;
