@@ -1,4 +1,4 @@
--- Between crates: the program's answer stands on none of these definitions.
+-- Believed in part: the library's answers stand on some of these definitions.
 -- Whole packets of captions at the front of bytes (SMPTE ST 291-1, SMPTE ST 334-1).
 use Rattle.std.specs.Prelude.{◌≡◌, ℕ, ◌+◌, ◌*◌, ◌≤◌, List, length, map, take}
 use Rattle.anc_words.specs.Packets.{AncillaryPacket, IsCaption, user_bytes}
