@@ -29,7 +29,7 @@ abbrev pub HasFed : List ℕ → Reception → Type 0
 HasFed bytes (Plain receiver) = HasReceived bytes receiver
 HasFed bytes (Concealing concealer) = HasConcealed bytes concealer
 
--- it follows these frames
+-- it stands after these frames
 abbrev pub StandsBehind : List Frame → Reception → Type 0
 StandsBehind frames (Plain receiver) = IsBehind frames receiver
 StandsBehind frames (Concealing concealer) = Conceals frames concealer

@@ -10,7 +10,7 @@ use Rattle.cue_types.specs.declared.cue.Kind.TheVariants.{Pop, Paint, Roll, Win}
 use Rattle.cue_types.specs.declared.cue.WinCue.{WinCue}
 use Rattle.dtvcc_author.specs.declared.caption.Caption.{Caption}
 
--- the caption of a cue in this window: what shows it is sent this many frames before SHOW as its delay lasts. A window cue has a
+-- the caption of a cue in this window: what shows it is sent as many frames before SHOW as its delay lasts. A window cue has a
 -- HIDE
 abbrev pub window_caption : Rate → WinCue → Cue → Caption
 window_caption rate w cue = record {

@@ -8,7 +8,7 @@ ghost use Rattle.lost.specs.ChannelLoss.{AuthoredIsSeenAgain, Resynchronises, Si
 
 /// What is authored is seen again after lost frames: a receiver that is reset right after a lost frame, and hears all frames from
 /// there on, shows at every settled frame the authored grids of CC1 and CC3 from the SHOW on of a cue that resynchronises the channel: each
-/// cue of which something is seen with it has its LOAD after the lost frame, of a roll-up cue this many of its chain as it has rows. So it is
+/// cue of which something is seen with it has its LOAD after the lost frame, of a roll-up cue as many of its chain as it has rows. So it is
 /// whatever the loss cut apart: a doubled code, a load, rows that roll up.
 pub fn authored_is_seen_again()
     ensures { AuthoredIsSeenAgain }
