@@ -390,6 +390,13 @@ typedef struct ccsuite_window_cell {
     uint8_t reserved[2];
 } ccsuite_window_cell;
 
+/* What is shown otherwise than before. */
+typedef struct ccsuite_changed {
+    uint64_t services; /* bit N of service N, 1 to 63 */
+    uint32_t channels; /* bit 0 of CC1 to bit 3 of CC4 */
+    uint32_t reserved[3];
+} ccsuite_changed;
+
 /* Opens it, reset before the first frame; with `conceals` for a line that loses frames: it is then reset where the frames' counters jump, and
  * shows a solid block for a byte of line 21 that has bad parity. MEMORY. It takes all its memory here: 15 MB of addresses, of which 2 MB are used. */
 uint32_t ccsuite_receiver_open(ccsuite_receiver *receiver, bool conceals);
@@ -431,8 +438,12 @@ uint32_t ccsuite_receiver_window_cell(ccsuite_receiver *receiver, uint32_t servi
 #define CCSUITE_WINDOW_CELLS 1024
 uint32_t ccsuite_receiver_window_grid(ccsuite_receiver *receiver, uint32_t service, uint32_t id, ccsuite_window_cell *cells, size_t room);
 
-/* Writes the text of what changed since the last call, or since the open, to the front of `out`, and its number of bytes to `*written`, which is
- * 0 elsewhere: called once a frame, all that `decode` prints of it, or the changes that `conceal` does. CLOSED, MEMORY; ROOM where the text has
+/* Tells which channels and services are shown otherwise than at the last call of this or of `_changes`, or at the open: called once a frame, those
+ * that changed in it, just where `_changes` has a text of them. Takes no memory. CLOSED. The struct is written only where the answer is OK. */
+uint32_t ccsuite_receiver_changed(ccsuite_receiver *receiver, ccsuite_changed *changed);
+
+/* Writes the text of what changed since the last call of this or of `_changed`, or since the open, to the front of `out`, and its number of bytes to
+ * `*written`, which is 0 elsewhere: called once a frame, all that `decode` prints of it, or the changes that `conceal` does. CLOSED, MEMORY; ROOM where the text has
  * more bytes than `out`, and then these changes aren't written again: `_screens` writes all that is shown. */
 uint32_t ccsuite_receiver_changes(ccsuite_receiver *receiver, uint8_t *out, size_t room, size_t *written);
 

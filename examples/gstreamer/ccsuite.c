@@ -14,15 +14,10 @@
 
 #define PACKAGE "ccsuite"
 #define CAPTIONS "closedcaption/x-cea-708, format=(string){ cdp, cc_data }, framerate=(fraction)"
-/* by the code of SMPTE ST 334-2: frames a second, and the triplets of a frame */
+/* frames a second, by the code of SMPTE ST 334-2 */
 static const struct {
     gint num, den;
-    guint triplets;
-} rates[] = {{0, 1, 0},      {24000, 1001, 25}, {24, 1, 25}, {25, 1, 24},      {30000, 1001, 20},
-             {30, 1, 20},    {50, 1, 12},       {60000, 1001, 10}, {60, 1, 10}};
-
-/* the most bytes of a distribution packet */
-#define CDP_ROOM 255
+} rates[] = {{0, 1}, {24000, 1001}, {24, 1}, {25, 1}, {30000, 1001}, {30, 1}, {50, 1}, {60000, 1001}, {60, 1}};
 
 static GstStaticPadTemplate list_template =
     GST_STATIC_PAD_TEMPLATE("src", GST_PAD_SRC, GST_PAD_ALWAYS, GST_STATIC_CAPS(CAPTIONS "{ 30000/1001, 30/1, 60000/1001, 60/1 }"));
@@ -53,64 +48,6 @@ static void refuse_list(GstElement *element, const gchar *location, const ccsuit
     GST_ELEMENT_ERROR(element, STREAM, DECODE, ("%s: %.*s", location, (int)strcspn(report->text, "\n"), report->text), (NULL));
 }
 
-/* ---- Distribution packets and ancillary words --------------------------------------------------------------------------------------------- */
-
-/* The distribution packet that an ancillary packet carries: a word each byte, between six words and the checksum. Its number of bytes. */
-static guint take_cdp(const guint8 *words, guint8 *cdp) {
-    guint size = words[11];
-    for (guint at = 0; at < size; at++) cdp[at] = words[2 * (6 + at) + 1];
-    return size;
-}
-
-/* A word of ten bits for a byte: bit 8 is even parity, and bit 9 its inverse. */
-static guint word_of(guint8 byte) {
-    guint parity = __builtin_parity(byte);
-    return (parity ? 0x100 : 0x200) | byte;
-}
-
-static guint8 *put_word(guint8 *out, guint word) {
-    *out++ = word >> 8;
-    *out++ = word & 0xFF;
-    return out;
-}
-
-/* The ancillary packet that carries a distribution packet. Its number of bytes. */
-static gsize put_words(const guint8 *cdp, guint size, guint8 *words) {
-    guint8 *out = words;
-    const guint head[] = {0, 0x3FF, 0x3FF, word_of(0x61), word_of(0x01), word_of(size)};
-    guint sum = 0;
-    for (guint at = 0; at < 6; at++) {
-        out = put_word(out, head[at]);
-        if (at > 2) sum += head[at] & 0x1FF;
-    }
-    for (guint at = 0; at < size; at++) {
-        out = put_word(out, word_of(cdp[at]));
-        sum += word_of(cdp[at]) & 0x1FF;
-    }
-    sum &= 0x1FF;
-    out = put_word(out, sum | (~sum << 1 & 0x200));
-    return out - words;
-}
-
-/* The distribution packet of a frame's cc_data at a rate, filled up with triplets that don't count. Its number of bytes; 0 if there is no room. */
-static guint wrap_cc_data(const guint8 *data, gsize size, guint rate, guint counter, guint8 *cdp) {
-    const guint8 head[] = {0x96, 0x69, 0, rate << 4 | 0xF, 0x43, counter >> 8, counter, 0x72};
-    guint triplets = MAX(size / 3, rates[rate].triplets), length = 9 + 3 * triplets;
-    guint8 sum = 0;
-    if (size % 3 || triplets > 31) return 0;
-    memcpy(cdp, head, sizeof head);
-    cdp[8] = 0xE0 | triplets;
-    memcpy(cdp + 9, data, size);
-    for (guint at = 9 + size; at < length; at += 3) memcpy(cdp + at, "\xFA\0\0", 3);
-    cdp[length++] = 0x74;
-    cdp[length++] = counter >> 8;
-    cdp[length++] = counter;
-    cdp[2] = length + 1;
-    for (guint at = 0; at < length; at++) sum += cdp[at];
-    cdp[length++] = -sum;
-    return length;
-}
-
 /* ---- ccsuitebuild ------------------------------------------------------------------------------------------------------------------------- */
 
 G_DECLARE_FINAL_TYPE(GstCcsuiteBuild, gst_ccsuite_build, GST, CCSUITE_BUILD, GstPushSrc)
@@ -118,22 +55,24 @@ struct _GstCcsuiteBuild {
     GstPushSrc parent;
     gchar *location;
     ccsuite_builder builder;
-    guint64 frame;               /* the number of the next frame */
-    guint8 cdp[CDP_ROOM];        /* its distribution packet */
-    guint size;                  /* the packet's number of bytes; 0 after the last frame */
+    guint64 frame;     /* the number of the next frame */
+    gboolean has_next; /* whether there is one */
+    guint rate;        /* its rate, by its code */
+    guint8 cdp[CCSUITE_CDP_ROOM], cc_data[CCSUITE_CC_DATA_ROOM];
+    size_t cdp_size, cc_data_size;
     gboolean as_cdp;
 };
 G_DEFINE_TYPE(GstCcsuiteBuild, gst_ccsuite_build, GST_TYPE_PUSH_SRC)
 
-/* Fetches the packet of the next frame. */
+/* Fetches the captions of the next frame, as a distribution packet and as its triplets. */
 static void fetch(GstCcsuiteBuild *self) {
     guint8 words[CCSUITE_PACKET_ROOM];
-    size_t written;
-    self->size = ccsuite_builder_next(&self->builder, words, sizeof words, &written) == CCSUITE_OK ? take_cdp(words, self->cdp) : 0;
-}
-
-static guint rate_of(GstCcsuiteBuild *self) {
-    return self->cdp[3] >> 4;
+    ccsuite_packet packet;
+    size_t size;
+    self->has_next = ccsuite_builder_next(&self->builder, words, sizeof words, &size) == CCSUITE_OK &&
+                     ccsuite_cdp_from_words(words, size, self->cdp, sizeof self->cdp, &self->cdp_size) == CCSUITE_OK &&
+                     ccsuite_cc_data_from_words(words, size, self->cc_data, sizeof self->cc_data, &self->cc_data_size, &packet) == CCSUITE_OK;
+    if (self->has_next) self->rate = packet.rate;
 }
 
 static gboolean build_start(GstBaseSrc *source) {
@@ -155,7 +94,7 @@ static gboolean build_start(GstBaseSrc *source) {
 
 static gboolean build_stop(GstBaseSrc *source) {
     ccsuite_builder_close(&GST_CCSUITE_BUILD(source)->builder);
-    GST_CCSUITE_BUILD(source)->size = 0;
+    GST_CCSUITE_BUILD(source)->has_next = FALSE;
     return TRUE;
 }
 
@@ -163,9 +102,9 @@ static gboolean build_stop(GstBaseSrc *source) {
 static GstCaps *build_get_caps(GstBaseSrc *source, GstCaps *filter) {
     GstCcsuiteBuild *self = GST_CCSUITE_BUILD(source);
     GstCaps *caps = gst_pad_get_pad_template_caps(GST_BASE_SRC_PAD(source)), *common;
-    if (self->size) {
+    if (self->has_next) {
         caps = gst_caps_make_writable(caps);
-        gst_caps_set_simple(caps, "framerate", GST_TYPE_FRACTION, rates[rate_of(self)].num, rates[rate_of(self)].den, NULL);
+        gst_caps_set_simple(caps, "framerate", GST_TYPE_FRACTION, rates[self->rate].num, rates[self->rate].den, NULL);
     }
     if (!filter) return caps;
     common = gst_caps_intersect_full(filter, caps, GST_CAPS_INTERSECT_FIRST);
@@ -180,13 +119,11 @@ static gboolean build_set_caps(GstBaseSrc *source, GstCaps *caps) {
 
 static GstFlowReturn build_create(GstPushSrc *source, GstBuffer **buffer) {
     GstCcsuiteBuild *self = GST_CCSUITE_BUILD(source);
-    guint rate = rate_of(self), from = self->as_cdp ? 0 : 9;
-    if (!self->size) return GST_FLOW_EOS;
-    /* A packet of the builder has one section, of cc_data, from byte 7 on. */
-    guint size = self->as_cdp ? self->size : 3 * (self->cdp[8] & 0x1Fu);
-    *buffer = gst_buffer_new_memdup(self->cdp + from, size);
-    GST_BUFFER_PTS(*buffer) = GST_BUFFER_DTS(*buffer) = gst_util_uint64_scale(self->frame, GST_SECOND * rates[rate].den, rates[rate].num);
-    GST_BUFFER_DURATION(*buffer) = gst_util_uint64_scale(self->frame + 1, GST_SECOND * rates[rate].den, rates[rate].num) - GST_BUFFER_PTS(*buffer);
+    gint num = rates[self->rate].num, den = rates[self->rate].den;
+    if (!self->has_next) return GST_FLOW_EOS;
+    *buffer = self->as_cdp ? gst_buffer_new_memdup(self->cdp, self->cdp_size) : gst_buffer_new_memdup(self->cc_data, self->cc_data_size);
+    GST_BUFFER_PTS(*buffer) = GST_BUFFER_DTS(*buffer) = gst_util_uint64_scale(self->frame, GST_SECOND * den, num);
+    GST_BUFFER_DURATION(*buffer) = gst_util_uint64_scale(self->frame + 1, GST_SECOND * den, num) - GST_BUFFER_PTS(*buffer);
     GST_BUFFER_OFFSET(*buffer) = self->frame++;
     fetch(self);
     return GST_FLOW_OK;
@@ -245,7 +182,7 @@ struct _GstCcsuiteCheck {
     gboolean fail;
     ccsuite_verifier verifier;
     gboolean told;  /* the verdict was told */
-    guint counter;  /* how many frames of cc_data came */
+    guint frames;   /* how many frames came */
     guint rate;     /* of cc_data, by its code; 0 of distribution packets */
 };
 G_DEFINE_TYPE(GstCcsuiteCheck, gst_ccsuite_check, GST_TYPE_BASE_TRANSFORM)
@@ -259,7 +196,7 @@ static gboolean check_start(GstBaseTransform *base) {
     ccsuite_verifier_open(list, size, &self->verifier, &report);
     g_free(list);
     self->told = FALSE;
-    self->counter = 0;
+    self->frames = 0;
     if (report.status != CCSUITE_OK) refuse_list(GST_ELEMENT(self), self->location, &report);
     return report.status == CCSUITE_OK;
 }
@@ -282,43 +219,47 @@ static gboolean check_set_caps(GstBaseTransform *base, GstCaps *caps, GstCaps *o
     return self->rate > 0;
 }
 
-/* Tells the verdict on what has come, once. Whether the pipeline may go on. */
-static gboolean tell_verdict(GstCcsuiteCheck *self) {
-    ccsuite_report report;
-    if (self->told || ccsuite_verifier_verdict(&self->verifier, &report) == CCSUITE_CLOSED) return TRUE;
+/* Tells a verdict, once. Whether the pipeline may go on. */
+static gboolean tell(GstCcsuiteCheck *self, guint status, const gchar *text, guint frame) {
+    GstStructure *told = gst_structure_new("ccsuitecheck", "status", G_TYPE_UINT, status, "text", G_TYPE_STRING, text, "frame", G_TYPE_UINT, frame, NULL);
     self->told = TRUE;
-    g_strchomp(report.text);
-    const gchar *text = report.status == CCSUITE_OK ? "ok" : report.text;
-    GstStructure *told = gst_structure_new("ccsuitecheck", "status", G_TYPE_UINT, report.status, "text", G_TYPE_STRING, text, "frame", G_TYPE_UINT,
-                                           report.frame, NULL);
     gst_element_post_message(GST_ELEMENT(self), gst_message_new_element(GST_OBJECT(self), told));
-    if (report.status == CCSUITE_OK || !self->fail) return TRUE;
+    if (status == CCSUITE_OK || !self->fail) return TRUE;
     GST_ELEMENT_ERROR(self, STREAM, FAILED, ("%s: %s", self->location, text), (NULL));
     return FALSE;
 }
 
-/* The distribution packet of a buffer: it, or the one around its cc_data. Its number of bytes; 0 if none has that many. */
-static guint packet_of(GstCcsuiteCheck *self, const GstMapInfo *map, guint8 *cdp) {
-    if (self->rate) return wrap_cc_data(map->data, map->size, self->rate, self->counter++ & 0xFFFF, cdp);
-    if (map->size > CDP_ROOM) return 0;
-    memcpy(cdp, map->data, map->size);
-    return map->size;
+/* The verdict on what has come. */
+static gboolean tell_verdict(GstCcsuiteCheck *self) {
+    ccsuite_report report;
+    if (self->told || ccsuite_verifier_verdict(&self->verifier, &report) == CCSUITE_CLOSED) return TRUE;
+    g_strchomp(report.text);
+    return tell(self, report.status, report.status == CCSUITE_OK ? "ok" : report.text, report.frame);
+}
+
+/* The words that carry a buffer's captions, the triplets of a frame or its distribution packet. Whether they are that. */
+static gboolean words_of(GstCcsuiteCheck *self, const GstMapInfo *map, guint8 *words, size_t *size) {
+    guint counter = self->frames++ & 0xFFFF;
+    if (self->rate) return ccsuite_words_from_cc_data(map->data, map->size, self->rate, counter, words, CCSUITE_PACKET_ROOM, size) == CCSUITE_OK;
+    return ccsuite_words_from_cdp(map->data, map->size, words, CCSUITE_PACKET_ROOM, size) == CCSUITE_OK;
 }
 
 static GstFlowReturn check_transform_ip(GstBaseTransform *base, GstBuffer *buffer) {
     GstCcsuiteCheck *self = GST_CCSUITE_CHECK(base);
-    guint8 cdp[CDP_ROOM], words[CCSUITE_PACKET_ROOM];
+    guint8 words[CCSUITE_PACKET_ROOM];
+    size_t size;
     ccsuite_fed fed;
     GstMapInfo map;
+    gboolean right;
     if (self->told) return GST_FLOW_OK;
     if (!gst_buffer_map(buffer, &map, GST_MAP_READ)) return GST_FLOW_ERROR;
-    guint size = packet_of(self, &map, cdp);
+    right = words_of(self, &map, words, &size);
     gst_buffer_unmap(buffer, &map);
-    if (!size) {
-        GST_ELEMENT_ERROR(self, STREAM, FORMAT, ("A buffer of %" G_GSIZE_FORMAT " bytes is no frame's captions", map.size), (NULL));
-        return GST_FLOW_ERROR;
+    if (!right) {
+        const gchar *text = self->rate ? "malformed: no triplets of a frame" : "malformed: no distribution packet";
+        return tell(self, CCSUITE_MALFORMED, text, self->frames - 1) ? GST_FLOW_OK : GST_FLOW_ERROR;
     }
-    if (ccsuite_verifier_feed(&self->verifier, words, put_words(cdp, size, words), &fed) == CCSUITE_OK) return GST_FLOW_OK;
+    if (ccsuite_verifier_feed(&self->verifier, words, size, &fed) == CCSUITE_OK) return GST_FLOW_OK;
     return tell_verdict(self) ? GST_FLOW_OK : GST_FLOW_ERROR;
 }
 

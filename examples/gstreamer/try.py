@@ -56,7 +56,7 @@ def try_packets(folder, program):
     print(f"gstreamer: the captions of {len(LISTS)} lists are those of the program, and are found to be right")
 
 
-def try_refused(folder):
+def try_refused(folder, program):
     hello, other, longer = EXAMPLES / "hello.csv", EXAMPLES / "english.csv", folder / "longer.csv"
     longer.write_text(hello.read_text().replace("29.97,30", "29.97,40"))
     for source, check, wanted in [
@@ -70,6 +70,13 @@ def try_refused(folder):
         assert status != 0 and wanted in told, told
     status, told = launch(f"ccsuitebuild location={other}", f"ccsuitecheck fail=false location={hello}", "fakesink")
     assert status == 0 and verdict_of(told) == (9, "differs at frame 7: GridDiffers CC1"), told
+    # Distribution packets of which the third one has another checksum, all of one length.
+    packets = bytearray(run(PYTHON, EXAMPLES / "cdp.py", "from-words", input=run(program, "build", input=hello.read_bytes())))
+    packets[3 * packets[2] - 1] ^= 1
+    (folder / "damaged").write_bytes(packets)
+    status, told = launch(f"filesrc location={folder}/damaged blocksize={packets[2]}", "closedcaption/x-cea-708,format=cdp,framerate=30000/1001",
+                          f"ccsuitecheck location={hello}", "fakesink")
+    assert status != 0 and verdict_of(told) == (6, "malformed: no distribution packet"), told
     print("gstreamer: lists and captions that aren't right are told")
 
 
@@ -108,7 +115,7 @@ def main():
         folder = pathlib.Path(name)
         os.environ["GST_REGISTRY"] = str(folder / "registry")
         try_packets(folder, program)
-        try_refused(folder)
+        try_refused(folder, program)
         for listed in LISTS:
             for _, encoder, decoder in ENCODERS:
                 try_encoder(folder, program, *listed, encoder, decoder)

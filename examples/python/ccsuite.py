@@ -28,7 +28,7 @@ from ctypes import POINTER, byref, c_bool, c_char, c_size_t, c_uint8, c_uint32, 
 from typing import Any, NamedTuple, TypeVar, Union
 
 __all__ = [
-    "Builder", "Cell", "Error", "Frame", "Packet", "Rate", "Reason", "Receiver", "Status", "Verifier", "Window", "WindowCell", "build",
+    "Builder", "Cell", "Changed", "Error", "Frame", "Packet", "Rate", "Reason", "Receiver", "Status", "Verifier", "Window", "WindowCell", "build",
     "cc_data_from_words", "cdp_from_words", "conceal", "convert", "cues", "decode", "dual", "export_mcc", "export_scc", "import_mcc", "import_scc",
     "insert", "load", "pairs", "reason_of", "show", "verify", "version", "words_from_cc_data", "words_from_cdp", "xds", "xds_show",
 ]
@@ -121,6 +121,10 @@ class _Frame(ctypes.Structure):
     _fields_ = [("number", c_uint64), ("missing", c_uint64), ("frames", c_uint32), ("reserved", c_uint32 * 3)]
 
 
+class _Changed(ctypes.Structure):
+    _fields_ = [("services", c_uint64), ("channels", c_uint32), ("reserved", c_uint32 * 3)]
+
+
 class _Cell(ctypes.Structure):
     _fields_ = [("ch", c_uint32), ("colour", c_uint8), ("italic", c_uint8), ("underline", c_uint8), ("reserved", c_uint8)]
 
@@ -207,7 +211,7 @@ _TAKEN = {
     "builder_open": [*_INPUT, _HANDLE, POINTER(_Report)], **dict.fromkeys("builder_next builder_next_cc_data".split(), [_HANDLE, *_FRONT]),
     "receiver_open": [_HANDLE, c_bool], "receiver_feed": [_HANDLE, *_INPUT, POINTER(_Fed)], "receiver_finish": [_HANDLE, POINTER(_Fed)],
     "receiver_frame": [_HANDLE, POINTER(_Frame)], "receiver_cell": [_HANDLE, c_uint32, c_uint32, c_uint32, POINTER(_Cell)],
-    "receiver_window": [_HANDLE, c_uint32, c_uint32, POINTER(_Window)],
+    "receiver_changed": [_HANDLE, POINTER(_Changed)], "receiver_window": [_HANDLE, c_uint32, c_uint32, POINTER(_Window)],
     "receiver_window_cell": [_HANDLE, c_uint32, c_uint32, c_uint32, c_uint32, POINTER(_WindowCell)],
     **dict.fromkeys("receiver_changes receiver_screens".split(), [_HANDLE, *_FRONT]),
     "receiver_feed_cc_data": [_HANDLE, *_INPUT, c_uint32, c_uint32, POINTER(_Fed)],
@@ -538,6 +542,13 @@ class Frame(NamedTuple):
     frames: int
 
 
+class Changed(NamedTuple):
+    """What is shown otherwise than before: channels, CC1 to CC4, and services, 1 to 63."""
+
+    channels: tuple[str, ...]
+    services: tuple[int, ...]
+
+
 class Cell(NamedTuple):
     """A cell of a channel that isn't empty."""
 
@@ -694,8 +705,16 @@ class Receiver(_Open):
         starts = range(0, window.rows * window.columns, window.columns)
         return [[_window_cell_of(it) for it in cells[at:at + window.columns]] for at in starts]
 
+    def changed(self) -> Changed:
+        """What is shown otherwise than at the last call of this or of `changes`, or at the start: called once a frame, what changed in it."""
+        seen = _Changed()
+        self._call("changed", byref(seen))
+        channels = tuple(name for bit, name in enumerate(CHANNELS) if seen.channels >> bit & 1)
+        return Changed(channels, tuple(service for service in range(1, 64) if seen.services >> service & 1))
+
     def changes(self) -> str:
-        """The text of what changed since the last call, or since the start: called once a frame, all that `decode` tells of it."""
+        """The text of what changed since the last call of this or of `changed`, or since the start: called once a frame, all that `decode` tells
+        of it."""
         return self._text_of("changes")
 
     def screens(self) -> str:

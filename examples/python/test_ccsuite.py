@@ -9,7 +9,7 @@ import threading
 import unittest
 
 import ccsuite
-from ccsuite import Cell, Error, Frame, Status
+from ccsuite import Cell, Changed, Error, Frame, Status
 
 LISTS = pathlib.Path(__file__).resolve().parent.parent
 HELLO = "ccsuite,1,29.97,30\npop,CC1,0,7,20\nrun,15,0,white,HI\n"
@@ -150,6 +150,20 @@ class Handles(unittest.TestCase):
             self.assertEqual(receiver.frame(), Frame(29, 0, 30))
         self.assertEqual("".join(texts) + "frames 30\n", SHOWN)
         refused(self, Status.CLOSED, receiver.screens)
+
+    def test_changed(self):
+        for name in ("windows.csv", "english.csv"):
+            words, told = ccsuite.build((LISTS / name).read_bytes()), 0
+            with ccsuite.Receiver() as receiver, ccsuite.Receiver() as texts:
+                for _, _ in zip(receiver.frames(words), texts.frames(words)):
+                    channels, services = receiver.changed()
+                    lines = texts.changes().splitlines()
+                    heads = [line.split()[0] for line in lines if line[0] in "CS"]
+                    self.assertEqual([*channels, *(f"S{service}" for service in services)], heads)
+                    told += bool(heads)
+                self.assertEqual(receiver.changed(), Changed((), ()))
+            self.assertGreater(told, 2)
+            refused(self, Status.CLOSED, receiver.changed)
 
     def test_window(self):
         with ccsuite.Receiver() as receiver:

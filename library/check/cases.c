@@ -456,6 +456,41 @@ static void texts(void) {
     ccsuite_receiver_close(&receiver);
 }
 
+/* what changes in each frame is told by its bits: as the text of the changes does */
+static void changes(const char *name) {
+    size_t size;
+    uint8_t *list = read_named(name, &size), packet[CCSUITE_PACKET_ROOM], text[4096];
+    size_t written, told = 0;
+    ccsuite_builder builder = {0};
+    ccsuite_receiver receiver = {0}, texts = {0};
+    ccsuite_report r;
+    ccsuite_fed fed;
+    POISONED(ccsuite_changed, changed);
+    CHECK(ccsuite_receiver_changed(&receiver, &changed.it) == CCSUITE_CLOSED && IS_POISONED(changed));
+    CHECK(ccsuite_builder_open(list, size, &builder, &r) == 0 && ccsuite_receiver_open(&receiver, false) == 0 && ccsuite_receiver_open(&texts, false) == 0);
+    while (ccsuite_builder_next(&builder, packet, sizeof packet, &written) == CCSUITE_OK) {
+        uint64_t services = 0;
+        uint32_t channels = 0;
+        CHECK(ccsuite_receiver_feed(&receiver, packet, written, &fed) == 0 && ccsuite_receiver_feed(&texts, packet, written, &fed) == 0);
+        CHECK(ccsuite_receiver_changed(&receiver, &changed.it) == CCSUITE_OK);
+        CHECK(ccsuite_receiver_changes(&texts, text, sizeof text - 1, &written) == CCSUITE_OK);
+        text[written] = 0;
+        for (const char *line = (const char *)text; *line; line = strchr(line, '\n') + 1) {
+            unsigned number;
+            if (sscanf(line, "CC%u ", &number) == 1) channels |= 1u << (number - 1);
+            if (sscanf(line, "S%u ", &number) == 1) services |= (uint64_t)1 << number;
+        }
+        CHECK(changed.it.channels == channels && changed.it.services == services && changed.it.reserved[0] == 0 && changed.it.reserved[2] == 0);
+        told += channels != 0 || services != 0;
+    }
+    CHECK_BEHIND(changed);
+    CHECK(told > 2 && ccsuite_receiver_changed(&receiver, &changed.it) == CCSUITE_OK && changed.it.channels == 0 && changed.it.services == 0);
+    ccsuite_builder_close(&builder);
+    ccsuite_receiver_close(&receiver);
+    ccsuite_receiver_close(&texts);
+    free(list);
+}
+
 /* two threads in turn: one opens, another feeds, the first reads and closes */
 static ccsuite_builder passed_builder;
 static ccsuite_receiver passed_receiver;
@@ -573,6 +608,7 @@ int main(int argc, char **argv) {
     packets();
     reasons();
     texts();
+    changes(argv[1]);
     threads();
     refusals();
     return 0;

@@ -2,6 +2,7 @@ pub use Rattle.cc_verifier.specs.Verifiers
 pub use Rattle.cue_list_commands.specs.Accepted
 pub use Rattle.command_base.specs.SideEnds
 pub use Rattle.cue_list_commands.specs.Planned
+pub use Rattle.grid_print.specs.Changed
 pub use Rattle.grid_print.specs.GridTexts
 pub use Rattle.grid_print.specs.Screens
 pub mod Builders

@@ -9,6 +9,7 @@ pub use crate::receiving::Receiving;
 pub use crate::reception::Reception;
 pub use crate::slice_source::SliceSource;
 pub use crate::verifying::Verifying;
+pub use grid_print::Changed;
 
 mod building;
 mod fault;

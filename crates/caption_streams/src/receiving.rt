@@ -10,7 +10,7 @@ use crate::reception::Reception;
 use cc_base::{Put, Sink};
 use cc_conceal::Concealer;
 use cc_receiver::{Fed, Receiver};
-use grid_print::{Shown, put_all_of};
+use grid_print::{Changed, Shown, put_all_of};
 use std::alloc::{AllocError, Global};
 
 /// A receiver of words, and the screens that were put last.
@@ -23,6 +23,7 @@ pub struct Receiving {
 }
 
 impl Receiving {
+    ghost use Rattle.grid_print.specs.Changed.{HaveChanged};
     ghost use Rattle.grid_print.specs.GridTexts.{all_text, changes_text};
     ghost use Rattle.grid_print.specs.Screens.{LookAlike};
     ghost use Rattle.line21_screen.specs.Grid.{empty_grid};
@@ -116,6 +117,19 @@ impl Receiving {
         let mut front = Front::new(alloc, most)?;
         let _ = self.put_changes(&mut front);
         Ok(front.into_bytes())
+    }
+
+    /// Which channels and services are shown otherwise after the last whole frame than on the screens that were put last, just where
+    /// `put_changes` puts a text of them. These screens are then the ones that were put last.
+    pub fn changed(&mut self) -> Changed
+        ensures told { (frames : List Frame) → StandsBehind frames (reception_of self.old)
+            → HaveChanged (last_screens self.old)
+            (screens_behind (reception_of self.old) frames) result }
+        ensures last { (frames : List Frame) → StandsBehind frames (reception_of self.old)
+            → LookAlike (last_screens self.new) (screens_behind (reception_of self.old) frames) }
+        ensures reception { reception_of self.new ≡ reception_of self.old }
+    {
+        self.shown.changes_of(&self.reception)
     }
 
     /// Puts the text of all screens after the last whole frame, as `show` prints it; after no frame, with the number 0.

@@ -12,6 +12,7 @@ use Rattle.cc_receiver.specs.declared.receiver.Fed.{Fed}
 use Rattle.cdp_packets.specs.Packets.{Frame}
 use Rattle.dtvcc_services.specs.Numbers.{IsService}
 use Rattle.dtvcc_windows.specs.Windows.{WindowState}
+use Rattle.caption_streams.specs.Changed.{HaveChanged}
 use Rattle.caption_streams.specs.GridTexts.{all_text, changes_text}
 use Rattle.caption_streams.specs.Screens.{LookAlike}
 use Rattle.line21_codes.specs.declared.channels.Chan.{Chan}
@@ -24,6 +25,7 @@ use Rattle.ccsuite_c.specs.Told.{TellsFed, read_so, refused_so}
 use Rattle.ccsuite_c.specs.declared.cells.TextCell.{TextCell}
 use Rattle.ccsuite_c.specs.declared.cells.WindowCell.{WindowCell}
 use Rattle.ccsuite_c.specs.declared.cells.WindowSeen.{WindowSeen}
+use Rattle.ccsuite_c.specs.declared.receiver.ChangedSeen.{ChangedSeen}
 use Rattle.ccsuite_c.specs.declared.receiver.FrameSeen.{FrameSeen}
 use Rattle.ccsuite_c.specs.declared.state.State.{State}
 use Rattle.ccsuite_c.specs.declared.state.State.TheVariants as held
@@ -140,6 +142,17 @@ ChangesAnswer old frames before after code count (Some (held.Receiving new)) =
     (HasPutScreens frames old new × HandsOut (changes_of old frames) before after code count)
     ⊎ ((code ≡ memory_code) × (new ≡ old) × IsUntouched before after count)
 ChangesAnswer old frames before after code count _ = ⊥
+
+-- what changed, as C is told of it
+abbrev pub changed_seen : Changed → ChangedSeen
+changed_seen changed = record { services = changed.services; channels = changed.channels; reserved = replicate 3 0 }
+
+-- it is told which channels and services changed since the screens that were put last
+abbrev pub ChangedAnswer : Receiving → List Frame → ℕ → ChangedSeen → Option State → Type 0
+ChangedAnswer old frames code told (Some (held.Receiving new)) =
+    (code ≡ 0) × HasPutScreens frames old new
+    × ((changed : Changed) × HaveChanged (last_screens old) (screens_behind (reception_of old) frames) changed × (told ≡ changed_seen changed))
+ChangedAnswer old frames code told _ = ⊥
 
 -- all screens after frames are handed out, or there is too little room, or memory wasn't found
 abbrev pub ScreensAnswer : Reception → List Frame → List ℕ → List ℕ → ℕ → ℕ → Type 0

@@ -19,9 +19,10 @@ pub use crate::packets::{
     ccsuite_words_from_cdp,
 };
 pub use crate::receiver::{
-    FrameSeen, ccsuite_receiver_cell, ccsuite_receiver_changes, ccsuite_receiver_close,
-    ccsuite_receiver_feed, ccsuite_receiver_feed_cc_data, ccsuite_receiver_finish,
-    ccsuite_receiver_frame, ccsuite_receiver_grid, ccsuite_receiver_open, ccsuite_receiver_screens,
+    ChangedSeen, FrameSeen, ccsuite_receiver_cell, ccsuite_receiver_changed,
+    ccsuite_receiver_changes, ccsuite_receiver_close, ccsuite_receiver_feed,
+    ccsuite_receiver_feed_cc_data, ccsuite_receiver_finish, ccsuite_receiver_frame,
+    ccsuite_receiver_grid, ccsuite_receiver_open, ccsuite_receiver_screens,
     ccsuite_receiver_window, ccsuite_receiver_window_cell, ccsuite_receiver_window_grid,
 };
 pub use crate::told::FedBytes;

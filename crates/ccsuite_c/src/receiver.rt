@@ -10,7 +10,7 @@ ghost use Rattle.words_files.specs.Offences.{IsFileUnder};
 ghost use Rattle.ccsuite_c.specs.Codes.{argument_code, closed_code};
 ghost use Rattle.ccsuite_c.specs.Grids.{GridAnswer, WindowGridAnswer};
 ghost use Rattle.ccsuite_c.specs.Handles.{HasNoReceiver, StaysSo, state_in};
-ghost use Rattle.ccsuite_c.specs.Receivers.{BeginsReceiving, CellAnswer, ChangesAnswer, EndAnswer, FrameAnswer, HandsOut, HasCellPlace, HasWindowPlace, OpenedReceiver, ReceivesAnswer, ScreensAnswer, WindowAnswer, WindowCellAnswer};
+ghost use Rattle.ccsuite_c.specs.Receivers.{BeginsReceiving, CellAnswer, ChangedAnswer, ChangesAnswer, EndAnswer, FrameAnswer, HandsOut, HasCellPlace, HasWindowPlace, OpenedReceiver, ReceivesAnswer, ScreensAnswer, WindowAnswer, WindowCellAnswer};
 ghost use Rattle.ccsuite_c.specs.States.{IsNoReceiver, WasFed};
 ghost use Rattle.ccsuite_c.specs.Told.{read_so};
 ghost use Rattle.ccsuite_c.specs.declared.state.State.TheVariants as held;
@@ -36,6 +36,18 @@ pub struct FrameSeen {
     pub missing: u64,
     /// The number of whole frames.
     pub frames: u32,
+    /// Zeros, for fields to come.
+    pub reserved: [u32; 3],
+}
+
+/// What is shown otherwise than before.
+#[repr(C)]
+#[derive(Clone, Copy, PartialEq, Eq)]
+pub struct ChangedSeen {
+    /// The services, each the bit of its number, 1 to 63.
+    pub services: u64,
+    /// The channels, bit 0 of CC1 to bit 3 of CC4.
+    pub channels: u32,
     /// Zeros, for fields to come.
     pub reserved: [u32; 3],
 }
@@ -660,6 +672,62 @@ fn tell_all_of(reception: &Reception, service: u32, id: u32, cells: &mut [Window
             0
         }
     }
+}
+
+/// Tells which channels and services are shown otherwise after the last whole frame than at the last call of this or of
+/// `ccsuite_receiver_changes`, or when the receiver was opened: 0. 32 where there is no open receiver, and then nothing is told.
+#[unsafe(no_mangle)]
+pub extern "C" fn ccsuite_receiver_changed(
+    alloc: Global,
+    receiver: &mut Handle,
+    seen: &mut ChangedSeen,
+) -> u32
+    ensures changed { (r : ReceivingOf) (frames : List Frame)
+        → state_in receiver.old ≡ Some (held.Receiving r)
+        → StandsBehind frames (reception_of r)
+        → ChangedAnswer r frames result seen.new (state_in receiver.new) }
+    ensures closed { HasNoReceiver (state_in receiver.old)
+        → (result ≡ closed_code) × (seen.new ≡ seen.old)
+        × (state_in receiver.new ≡ state_in receiver.old) }
+{
+    match receiver.take(alloc) {
+        None => CLOSED,
+        Some(mut state) => {
+            let code = changed(&mut state, seen);
+            *receiver = Handle::of(state);
+            code
+        }
+    }
+}
+
+fn changed(state: &mut State, seen: &mut ChangedSeen) -> u32
+    requires { WasFed state.old }
+    ensures changed { (r : ReceivingOf) (frames : List Frame) → state.old ≡ held.Receiving r
+        → StandsBehind frames (reception_of r)
+        → ChangedAnswer r frames result seen.new (Some state.new) }
+    ensures closed { IsNoReceiver state.old
+        → (result ≡ closed_code) × (seen.new ≡ seen.old) × (state.new ≡ state.old) }
+    ensures on { WasFed state.new }
+{
+    match state {
+        State::Receiving(receiving) => tell_changed(receiving, seen),
+        _ => CLOSED,
+    }
+}
+
+fn tell_changed(receiving: &mut Receiving, seen: &mut ChangedSeen) -> u32
+    ensures changed { (frames : List Frame) → StandsBehind frames (reception_of receiving.old)
+        → ChangedAnswer receiving.old frames result seen.new
+        (Some (held.Receiving receiving.new)) }
+    ensures reception { reception_of receiving.new ≡ reception_of receiving.old }
+{
+    let changed = receiving.changed();
+    *seen = ChangedSeen {
+        services: changed.services,
+        channels: changed.channels,
+        reserved: [0; 3],
+    };
+    0
 }
 
 /// Writes the text of what changed since the last call, or since the receiver was opened, to the front of `out`, as `decode` prints it, or

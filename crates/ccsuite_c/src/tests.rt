@@ -1,13 +1,13 @@
 use crate::{
-    Edge, FedBytes, FrameSeen, Handle, PacketSeen, Shade, StartTime, TextCell, WindowCell,
-    WindowSeen, ccsuite_build, ccsuite_builder_close, ccsuite_builder_next,
+    ChangedSeen, Edge, FedBytes, FrameSeen, Handle, PacketSeen, Shade, StartTime, TextCell,
+    WindowCell, WindowSeen, ccsuite_build, ccsuite_builder_close, ccsuite_builder_next,
     ccsuite_builder_next_cc_data, ccsuite_builder_open, ccsuite_cc_data_from_words,
     ccsuite_cdp_from_words, ccsuite_conceal, ccsuite_convert, ccsuite_cues, ccsuite_decode,
     ccsuite_dual, ccsuite_export, ccsuite_export_mcc, ccsuite_import, ccsuite_import_mcc,
     ccsuite_insert, ccsuite_load, ccsuite_pairs, ccsuite_reason_of, ccsuite_receiver_cell,
-    ccsuite_receiver_changes, ccsuite_receiver_close, ccsuite_receiver_feed,
-    ccsuite_receiver_feed_cc_data, ccsuite_receiver_finish, ccsuite_receiver_frame,
-    ccsuite_receiver_grid, ccsuite_receiver_open, ccsuite_receiver_screens,
+    ccsuite_receiver_changed, ccsuite_receiver_changes, ccsuite_receiver_close,
+    ccsuite_receiver_feed, ccsuite_receiver_feed_cc_data, ccsuite_receiver_finish,
+    ccsuite_receiver_frame, ccsuite_receiver_grid, ccsuite_receiver_open, ccsuite_receiver_screens,
     ccsuite_receiver_window, ccsuite_receiver_window_cell, ccsuite_receiver_window_grid,
     ccsuite_show, ccsuite_verifier_close, ccsuite_verifier_feed, ccsuite_verifier_open,
     ccsuite_verifier_verdict, ccsuite_verify, ccsuite_version, ccsuite_words_from_cc_data,
@@ -346,6 +346,13 @@ fn a_receiver_tells_its_screens(rt: HostRuntime) {
     let mut written = 9;
     assert!(rt; ccsuite_receiver_changes(alloc, &mut receiver, &mut out, &mut written) == 0);
     assert!(rt; written == 0);
+    let mut changed = ChangedSeen {
+        services: 9,
+        channels: 9,
+        reserved: [9; 3],
+    };
+    assert!(rt; ccsuite_receiver_changed(alloc, &mut receiver, &mut changed) == 0);
+    assert!(rt; changed.services == 0 && changed.channels == 0 && changed.reserved == [0; 3]);
     assert!(rt; ccsuite_receiver_screens(alloc, &mut receiver, &mut out[..7], &mut written) == 3);
     assert!(rt; ccsuite_receiver_screens(alloc, &mut receiver, &mut out, &mut written) == 0);
     assert!(rt; out.starts_with(b"frame 0\n"));

@@ -14,3 +14,4 @@ pub mod NumberLemmas
 pub mod ServiceLemmas
 pub mod KeptLemmas
 pub mod ScreenLemmas
+pub mod DifferingLemmas

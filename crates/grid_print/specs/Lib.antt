@@ -11,3 +11,5 @@ pub mod GridTexts
 pub mod Keeping
 pub mod Kept
 pub mod Shown
+pub mod Changed
+pub mod Differing

@@ -5,6 +5,7 @@
 
 pub use crate::cell_runs::{begun, runs_of_row, write_front};
 pub use crate::cells::WrittenCell;
+pub use crate::changed::Changed;
 pub use crate::differences::differs;
 pub use crate::print::{put_all, put_all_of};
 pub use crate::shown::Shown;
@@ -13,7 +14,9 @@ pub use crate::window_text::write_window;
 pub mod cell_laws;
 mod cell_runs;
 mod cells;
+mod changed;
 mod differences;
+mod differing;
 mod kept;
 pub mod laws;
 mod print;

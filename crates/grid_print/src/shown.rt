@@ -11,7 +11,10 @@ ghost use Rattle.grid_print.specs.WindowTexts.{service_text};
 ghost use Rattle.grid_print.specs.GridTexts.{changed_channel, channels, grid_text};
 ghost use Rattle.dtvcc_services.specs.Numbers.{IsService};
 ghost use Rattle.grid_print.specs.Kept.{KeepsServices, changed_places, seen_at};
+ghost use Rattle.grid_print.specs.Differing.{TellsDifference};
 
+use crate::changed::{Changed, service_bits};
+use crate::differing::Differing;
 use crate::kept::Kept;
 use crate::service::{service_at, write_service};
 use crate::text::{write_frame, write_grid};
@@ -41,6 +44,8 @@ impl Shown {
     ghost use Rattle.cc_base.specs.Streams.{PutCause, Puts};
     ghost use Rattle.line21_screen.specs.Grid.{empty_grid};
     ghost use Rattle.grid_print.specs.GridTexts.{changes_text, channels_differ, frame_line, screens_differ, service_differs, services_differ};
+    ghost use Rattle.grid_print.specs.Changed.{HaveChanged};
+    ghost use Rattle.grid_print.specs.Differing.{TellsChannels};
     ghost use Rattle.grid_print.specs.Kept.{changed_at};
     ghost use Rattle.grid_print.specs.Shown.{last_grid, last_shown};
     ghost use Rattle.grid_print.specs.Screens.{HaveSameWindows, LookAlike, IsBehind, received_screens, screens_of};
@@ -106,11 +111,11 @@ impl Shown {
             → (touched ≡ false → HaveSameWindows (last_shown self.old).windows seen)
             → LookAlike (last_shown self.new) (screens_of (G.grids r.now) seen) }
     {
-        let channels = self.channels_differ(r);
+        let differing = self.channels_differ(r);
         let services = self.keep_services(r, touched);
-        let changed = channels | services;
+        let changed = differing.any() | services;
         if changed {
-            self.write_differing(r, frame, services, text, out);
+            self.write_differing(r, frame, differing, services, text, out);
         }
     }
 
@@ -122,12 +127,30 @@ impl Shown {
         ensures now { (seen : ℕ → ℕ → Option ShownWindow) → G.shows r.now seen
             → LookAlike (last_shown self.new) (screens_of (G.grids r.now) seen) }
     {
-        let channels = self.channels_differ(r);
+        let differing = self.channels_differ(r);
         let services = self.keep_services(r, true);
-        if channels {
+        let some = differing.any();
+        if some {
             self.keep_channels(r);
         }
-        channels | services
+        some | services
+    }
+
+    /// Which channels and services the screens of a frame, of whatever shows them, show otherwise than those that were shown last. They are
+    /// then the ones that were shown last.
+    pub fn changes_of<G: Grids>(&mut self, r: &G) -> Changed
+        ensures told { (seen : ℕ → ℕ → Option ShownWindow) → G.shows r.now seen
+            → HaveChanged (last_shown self.old) (screens_of (G.grids r.now) seen) result }
+        ensures now { (seen : ℕ → ℕ → Option ShownWindow) → G.shows r.now seen
+            → LookAlike (last_shown self.new) (screens_of (G.grids r.now) seen) }
+    {
+        let differing = self.channels_differ(r);
+        keep_services(&mut self.services, r);
+        self.keep_channels(r);
+        Changed {
+            channels: differing.bits(),
+            services: service_bits(&self.services),
+        }
     }
 
     // Keeps the grid of each channel.
@@ -164,10 +187,12 @@ impl Shown {
         &mut self,
         r: &G,
         frame: u64,
+        differing: Differing,
         services: bool,
         text: &mut Gathered,
         out: &mut O,
     )
+        requires { TellsChannels (last_grid self.old) (G.grids r.now) differing }
         ensures some { WritesSome (page text.old (O.written out.old) (O.faults out.old))
             (page text.new (O.written out.new) (O.faults out.new)) }
         ensures text { (seen : ℕ → ℕ → Option ShownWindow) → G.shows r.now seen
@@ -179,35 +204,46 @@ impl Shown {
         ensures services { self.new.services ≡ self.old.services }
     {
         write_frame(frame, text, out);
-        self.write_channels(r, text, out);
+        self.write_channels(r, differing, text, out);
         if services {
             write_changed(&self.services, r, text, out);
         }
     }
 
-    // Whether the grid of some channel differs from the one that was shown last.
-    fn channels_differ<G: Grids>(&self, r: &G) -> bool
-        ensures some { result ≡ channels_differ (last_grid self.now) (G.grids r.now) }
-        ensures same { result ≡ false → last_grid self.now ≡ G.grids r.now }
+    // Whether the grid of each channel differs from the one that was shown last.
+    fn channels_differ<G: Grids>(&self, r: &G) -> Differing
+        ensures { TellsChannels (last_grid self.now) (G.grids r.now) result }
     {
         let one = self.cc1.differs(r.displayed(Chan::Cc1));
         let two = self.cc2.differs(r.displayed(Chan::Cc2));
         let three = self.cc3.differs(r.displayed(Chan::Cc3));
         let four = self.cc4.differs(r.displayed(Chan::Cc4));
-        one | two | three | four
+        Differing {
+            cc1: one,
+            cc2: two,
+            cc3: three,
+            cc4: four,
+        }
     }
 
     // Writes the grid of each channel whose grid differs from the one that was shown last, and keeps it.
-    fn write_channels<G: Grids, O: Sink>(&mut self, r: &G, text: &mut Gathered, out: &mut O)
+    fn write_channels<G: Grids, O: Sink>(
+        &mut self,
+        r: &G,
+        differing: Differing,
+        text: &mut Gathered,
+        out: &mut O,
+    )
+        requires { TellsChannels (last_grid self.old) (G.grids r.now) differing }
         ensures text { Adds O.written O.faults text.old out.old text.new out.new
             (flat_map (changed_channel (last_grid self.old) (G.grids r.now)) channels) }
         ensures now { last_grid self.new ≡ G.grids r.now }
         ensures services { self.new.services ≡ self.old.services }
     {
-        write_channel(&mut self.cc1, Chan::Cc1, r, text, out);
-        write_channel(&mut self.cc2, Chan::Cc2, r, text, out);
-        write_channel(&mut self.cc3, Chan::Cc3, r, text, out);
-        write_channel(&mut self.cc4, Chan::Cc4, r, text, out);
+        write_channel(&mut self.cc1, differing.cc1, Chan::Cc1, r, text, out);
+        write_channel(&mut self.cc2, differing.cc2, Chan::Cc2, r, text, out);
+        write_channel(&mut self.cc3, differing.cc3, Chan::Cc3, r, text, out);
+        write_channel(&mut self.cc4, differing.cc4, Chan::Cc4, r, text, out);
     }
 
     /// Puts the text of what changed from the screens that were shown last to those of a frame, of whatever shows them, which is
@@ -292,18 +328,20 @@ fn no_services(alloc: Global) -> Result<Vec<Kept>, AllocError>
 // Writes a channel's grid and keeps it, if it differs from the one that is kept.
 fn write_channel<G: Grids, O: Sink>(
     kept: &mut Memory,
+    differs: bool,
     chan: Chan,
     r: &G,
     text: &mut Gathered,
     out: &mut O,
 )
+    requires { TellsDifference (grid_in kept.old) (G.grids r.now chan) differs }
     ensures text { Adds O.written O.faults text.old out.old text.new out.new
         (if grid_differs (grid_in kept.old) (G.grids r.now chan) then grid_text chan
         (G.grids r.now chan) else []) }
     ensures kept { grid_in kept.new ≡ G.grids r.now chan }
 {
-    let now = r.displayed(chan);
-    if kept.differs(now) {
+    if differs {
+        let now = r.displayed(chan);
         write_grid(chan, now, text, out);
         kept.copy_from(now);
     }

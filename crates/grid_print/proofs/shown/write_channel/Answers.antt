@@ -11,14 +11,12 @@ returns-then-differs-clause-text g c =
     let grid = g.G.Grids.grids c.args.r.now c.args.chan in
     writes_same _ _ _ _
     (ap (grid_text c.args.chan) c.displayed-now.ensures
-    ∙ text_if (grid_differs (grid_in c.args.kept.now) grid) (grid_text c.args.chan grid)
-    (ap (grid_differs (grid_in c.args.kept.now)) (sym c.displayed-now.ensures) ∙ sym c.differs.ensures.told ∙ c.if-differs.true))
+    ∙ text_if (grid_differs (grid_in c.args.kept.now) grid) (grid_text c.args.chan grid) (sym c.requires.differs ∙ c.if-differs.true))
     c.write_grid.ensures
 
 pub returns-else-differs-clause-text : goal.returns-else-differs-clause-text
 returns-else-differs-clause-text g c =
     let grid = g.G.Grids.grids c.args.r.now c.args.chan in
     writes_same _ _ _ _
-    (none_if (grid_differs (grid_in c.args.kept.now) grid) (grid_text c.args.chan grid)
-    (ap (grid_differs (grid_in c.args.kept.now)) (sym c.displayed-now.ensures) ∙ sym c.differs.ensures.told ∙ c.if-differs.false))
+    (none_if (grid_differs (grid_in c.args.kept.now) grid) (grid_text c.args.chan grid) (sym c.requires.differs ∙ c.if-differs.false))
     (writes_none _)
