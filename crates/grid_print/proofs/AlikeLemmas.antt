@@ -1,5 +1,5 @@
 -- Cells are written alike just where they have one style, or one pen and the same colours.
-use Rattle.std.proofs.Common.{◌≡◌, ◌∙◌, ℕ, Bool, refl, sym, ap}
+use Rattle.std.proofs.Common.{◌≡◌, ◌∙◌, ◌&&◌, ℕ, Bool, refl, sym, ap}
 use Rattle.std.proofs.lemmas.Bool.Decides.{Decides-and, Decides-eqb, Decides-like}
 use Rattle.std.specs.Bool.{Decides}
 use Rattle.std.specs.Cmp.{booleans_Decides}
@@ -9,7 +9,7 @@ use Rattle.dtvcc_codes.specs.declared.pens.PenAttr.{PenAttr}
 use Rattle.dtvcc_codes.specs.declared.pens.PenColors.{PenColors}
 use Rattle.dtvcc_codes.specs.declared.pens.Rgb.{Rgb}
 use Rattle.dtvcc_windows.specs.declared.cells.DCell.{DCell}
-use Rattle.grid_print.specs.Writing.{in_pens, in_styles, same_colors, same_fill, same_pen, same_rgb, written_alike}
+use Rattle.grid_print.specs.Writing.{in_pens, in_styles, same_fill, same_pen, same_rgb, written_alike}
 use Rattle.grid_print.proofs.CellRunsOfLemmas.{IsWriting}
 
 -- colours of the same parts are one
@@ -54,6 +54,9 @@ colors_parts a = refl
 
 one_colors : (a b : PenColors) → (a.fg ≡ b.fg) × ((a.bg ≡ b.bg) × (a.edge ≡ b.edge)) → a ≡ b
 one_colors a b (fg, (bg, edge)) = cc (colors_parts a, colors_parts b)
+
+abbrev pub same_colors : PenColors → PenColors → Bool
+same_colors a b = same_fill a.fg b.fg && (same_fill a.bg b.bg && same_rgb a.edge b.edge)
 
 Decides-colors : (a b : PenColors) → Decides (same_colors a b) (a ≡ b)
 Decides-colors a b =

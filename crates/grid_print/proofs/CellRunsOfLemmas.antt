@@ -3,13 +3,13 @@ use Rattle.std.proofs.Common.{◌≡◌, ℕ, zero, suc, ◌+◌, ◌<◌, ◌�
 use Rattle.std.proofs.lemmas.Bool.{cases_Bool, cases_lt, true≢false}
 use Rattle.std.proofs.lemmas.List.{get_or-drop, get_or_past}
 use Rattle.std.proofs.lemmas.List.Elements.{All-append, All-cons, All-head, All-nil, All-tail, All-weaker, Contains-append_left, Contains-append_right}
-use Rattle.std.specs.List.{cons_option, filter_map, range_with_len}
+use Rattle.std.specs.List.{cons_option, filter_map, flat_map, range_with_len}
 use Rattle.std.specs.Option.{option_map}
-use Rattle.grid_print.specs.CellRuns.{Run, begun, front_text, is_alike, left_of, row_runs, rows_runs, run_at, run_from}
+use Rattle.grid_print.specs.CellRuns.{Run, begun, front_text, is_alike, row_runs, run_at}
 use Rattle.grid_print.specs.RunsOf.{AreInOrder, AreRunsOf, IsBefore, IsPlaceOfRun, IsRun, Places}
 use Rattle.grid_print.specs.Writing.{Writing}
 use Rattle.grid_print.proofs.FrontLemmas.{front_cells, front_ends, front_more}
-use Rattle.grid_print.proofs.RunLemmas.{left_next}
+use Rattle.grid_print.proofs.RunLemmas.{left_next, left_of, run_from}
 
 -- what holds of a test of whether cells are written alike
 pub record IsWriting {C : Type 0} (w : Writing C) : Type 0 where
@@ -87,6 +87,10 @@ cols_all w P row cells col zero each = All-nil P
 cols_all w P row cells col (suc n) each =
     kept_all P (run_at w row cells col) (filter_map (run_at w row cells) (range_with_len (col + 1) n)) (λ run is. each col run (omega arith) (omega arith) is)
     (cols_all w P row cells (col + 1) n (λ c run from to is. each c run (omega arith) (omega arith) is))
+
+-- the runs of this many rows from one on, where `cells` are those of a row
+abbrev pub rows_runs : {C : Type 0} → Writing C → (ℕ → List (Option C)) → ℕ → ℕ → List (Run C)
+rows_runs w cells start count = flat_map (λ row. row_runs w row (cells row)) (range_with_len start count)
 
 -- what holds of the runs of each row holds of those of all
 rows_all : {C : Type 0} (w : Writing C) (P : Run C → Type 0) (cells : ℕ → List (Option C)) (a n : ℕ)

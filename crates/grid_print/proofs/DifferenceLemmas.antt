@@ -1,5 +1,5 @@
 -- Windows differ just where they aren't shown alike.
-use Rattle.std.proofs.Common.{◌≡◌, ◌≢◌, if◌then◌else◌, ◌<◌, ◌+◌, ℕ, zero, suc, not, Bool, true, false, Option, Some, None, get_or, refl, sym, ap, ◌∙◌, subst, zero-add, arith, inl, inr}
+use Rattle.std.proofs.Common.{◌≡◌, ◌≢◌, if◌then◌else◌, ◌<◌, ◌+◌, ℕ, zero, suc, not, ◌&&◌, Bool, true, false, Option, Some, None, get_or, refl, sym, ap, ◌∙◌, subst, zero-add, arith, inl, inr}
 use Rattle.std.proofs.Math.Path.{fun_ext}
 use Rattle.std.proofs.lemmas.Bool.{cases_Bool, not-false, true≢false}
 use Rattle.std.proofs.lemmas.List.Folds.{list_all_at}
@@ -18,7 +18,7 @@ use Rattle.dtvcc_windows.specs.Objects.{state_of, window_of}
 use Rattle.dtvcc_windows.specs.Showing.{ShownWindow, shown}
 use Rattle.dtvcc_windows.specs.Windows.{WindowState}
 use Rattle.dtvcc_windows.specs.Sizes.{IsWithin, in_size}
-use Rattle.grid_print.specs.Differences.{differs, same_cells, same_place, same_shown_window, same_window_cell}
+use Rattle.grid_print.specs.Differences.{differs, same_attributes, same_place, same_window_cell}
 use Rattle.grid_print.proofs.AlikeLemmas.{Decides-alike}
 use Rattle.dtvcc_windows.proofs.SameLemmas.{Decides-attributes}
 
@@ -56,6 +56,10 @@ all_of test from zero each = refl
 all_of test from (suc count) each =
     rw (each from (omega arith)) (all_of test (from + 1) count (λ k within. each k (omega arith)))
 
+-- the same cell stands at each place of this many rows and columns
+abbrev same_cells : ℕ → ℕ → Cells → Cells → Bool
+same_cells rows cols a b = list_all (λ row. list_all (λ col. same_window_cell (a row col) (b row col)) (range_with_len 0 cols)) (range_with_len 0 rows)
+
 Decides-cells : (rows cols : ℕ) (a b : Cells) → Decides (same_cells rows cols a b) ((row col : ℕ) → row < rows → col < cols → a row col ≡ b row col)
 Decides-cells rows cols a b = (
   λ same row col in_row in_col.
@@ -79,9 +83,12 @@ Decides-place a b =
     (Decides-and _ _ (Decides-eqb a.anchor b.anchor) (Decides-and _ _ (Decides-eqb a.rows b.rows) (Decides-and _ _ (Decides-eqb a.cols b.cols)
     (Decides-and _ _ (booleans_Decides a.row_lock b.row_lock) (Decides-and _ _ (booleans_Decides a.col_lock b.col_lock) (Decides-eqb a.priority b.priority))))))))
 
+-- two windows are shown alike
+abbrev same_shown_window : ShownWindow → ShownWindow → Bool
+same_shown_window a b = same_place a b && (same_attributes a.attributes b.attributes && same_cells a.rows a.cols a.cells b.cells)
+
 Decides-window : (a b : ShownWindow)
     → Decides (same_shown_window a b) (Place a b × ((a.attributes ≡ b.attributes) × ((row col : ℕ) → row < a.rows → col < a.cols → a.cells row col ≡ b.cells row col)))
-unfolding same_shown_window
 Decides-window a b =
     Decides-and _ _ (Decides-place a b) (Decides-and _ _ (Decides-attributes a.attributes b.attributes) (Decides-cells a.rows a.cols a.cells b.cells))
 

@@ -10,11 +10,12 @@ use Rattle.line21_screen.specs.Differences.{grid_differs}
 use Rattle.line21_screen.specs.Grid.{Grid}
 use Rattle.grid_print.specs.Changed.{bits, service_bit}
 use Rattle.grid_print.specs.Differing.{TellsChannels, differs_on}
-use Rattle.grid_print.specs.GridTexts.{all_services, channels, channels_differ, service_differs}
+use Rattle.grid_print.specs.GridTexts.{all_services, channels, service_differs}
 use Rattle.grid_print.specs.Kept.{KeepsServices, changed_at, seen_at}
 use Rattle.grid_print.specs.declared.differing.Differing.{Differing}
 use Rattle.grid_print.specs.declared.kept.Kept.{Kept}
 use Rattle.grid_print.proofs.RunLemmas.{range_push}
+use Rattle.grid_print.proofs.ScreenLemmas.{channels_differ}
 
 -- what is told of the channels
 told_are : (old new : Chan → Grid) (told : Differing) → TellsChannels old new told → differs_on told ≡ (λ chan. grid_differs (old chan) (new chan))
@@ -23,7 +24,6 @@ told_are old new told tells = fun_ext (λ chan. (tells chan).differs)
 -- some channel differs just where one is told to
 pub some_differ : (old new : Chan → Grid) (told : Differing) (some : Bool) → TellsChannels old new told → some ≡ list_any (differs_on told) channels
     → some ≡ channels_differ old new
-unfolding channels_differ
 some_differ old new told some tells is = is ∙ ap (λ t. list_any t channels) (told_are old new told tells)
 
 -- where none is told to, all are the same

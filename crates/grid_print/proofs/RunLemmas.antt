@@ -1,12 +1,20 @@
 -- Steps along a row.
-use Rattle.std.proofs.Common.{◌≡◌, ℕ, ◌+◌, ◌++◌, List, [], ◌∷◌, Option, Some, None, get_or, length, refl, sym, ap, ◌∙◌, add-one, zero-add, is_some, if◌then◌else◌}
+use Rattle.std.proofs.Common.{◌≡◌, ℕ, ◌+◌, ◌++◌, List, [], ◌∷◌, Option, Some, None, drop, get_or, length, refl, sym, ap, ◌∙◌, add-one, zero-add, is_some, if◌then◌else◌}
 use Rattle.std.proofs.lemmas.List.{append-nil, flat_map_more, length-append, map-id}
 use Rattle.std.proofs.lemmas.List.Elements.{filter_map-append}
 use Rattle.std.proofs.lemmas.List.FromFn.{map-range_with_len_more}
 use Rattle.std.specs.Option.{option_map}
 use Rattle.std.specs.List.{cons_option, filter_map, flat_map, range_with_len}
-use Rattle.grid_print.specs.CellRuns.{Run, begun, left_of, run_at, run_from}
+use Rattle.grid_print.specs.CellRuns.{Run, begun, front_text, run_at}
 use Rattle.grid_print.specs.Writing.{Writing}
+
+-- what stands on the left of a column of a row
+abbrev pub left_of : {C : Type 0} → List (Option C) → ℕ → Option C
+left_of cells col = get_or (None ∷ cells) col None
+
+-- the run from a column of a row on, of which this is the first cell
+abbrev pub run_from : {C : Type 0} → Writing C → ℕ → List (Option C) → ℕ → C → Run C
+run_from w row cells col first = record { row = row; col = col; first = first; text = front_text w first (drop col cells) }
 
 -- what stood at a column is on the left of the next one
 pub left_next : {C : Type 0} (cells : List (Option C)) (i : ℕ) → get_or cells i None ≡ left_of cells (i + 1)

@@ -1,5 +1,5 @@
 -- The text of screens of its parts.
-use Rattle.std.proofs.Common.{◌≡◌, ◌≢◌, ◌<◌, ◌+◌, ◌-◌, ◌++◌, ◌==◌, ◌||◌, ◌∙◌, if◌then◌else◌, ℕ, Bool, true, false, List, [], ◌∷◌, Option, length, refl, subst, sym, take, ap, append_assoc, append-nil, arith}
+use Rattle.std.proofs.Common.{◌≡◌, ◌≢◌, ◌<◌, ◌+◌, ◌-◌, ◌++◌, ◌==◌, ◌||◌, ◌∙◌, not, if◌then◌else◌, ℕ, Bool, true, false, List, [], ◌∷◌, Option, length, refl, subst, sym, take, ap, append_assoc, append-nil, arith}
 use Rattle.std.proofs.Math.Path.{fun_ext}
 use Rattle.std.proofs.lemmas.Bool.{true≢false}
 use Rattle.std.proofs.lemmas.Bool.Decides.{nat_tests}
@@ -22,20 +22,44 @@ use Rattle.grid_print.specs.WindowTexts.{service_text, shown_ids}
 use Rattle.grid_print.proofs.DifferenceLemmas.{differs-itself}
 use Rattle.words_files.specs.Received.{received_grids}
 use Rattle.grid_print.specs.declared.kept.Kept.{Kept}
-use Rattle.grid_print.specs.GridTexts.{all_services, all_text, changed_channel, changed_service, changed_services, changes_text, channels, channels_differ, frame_line, grid_text, screens_differ, service_differs, services_differ, shown_channel, shown_service, shown_services}
+use Rattle.grid_print.specs.GridTexts.{all_services, all_text, changes_text, channel_texts, channels, frame_line, grid_text, screens_differ, service_differs, service_texts}
 use Rattle.grid_print.specs.Kept.{KeepsServices, changed_at, changed_places, seen_at}
 use Rattle.grid_print.specs.Runs.{runs}
 use Rattle.grid_print.specs.Screens.{HaveSameWindows, IsBehind, LookAlike, Screens}
 use Rattle.grid_print.proofs.NumberLemmas.{any_none, any_same, any_shift, texts_same, texts_shift}
 
+-- whether the grid of some channel differs, and whether the windows of some service do
+abbrev pub channels_differ : (Chan → Grid) → (Chan → Grid) → Bool
+channels_differ old new = list_any (λ chan. grid_differs (old chan) (new chan)) channels
+
+abbrev pub services_differ : (ℕ → ℕ → Option ShownWindow) → (ℕ → ℕ → Option ShownWindow) → Bool
+services_differ old new = list_any (λ service. service_differs (old service) (new service)) all_services
+
+-- the texts of the channels and of the services that changed
+abbrev pub changed_channels : (Chan → Grid) → (Chan → Grid) → List ℕ
+changed_channels old new = channel_texts (λ chan. grid_differs (old chan) (new chan)) new
+
+abbrev pub changed_services : (ℕ → ℕ → Option ShownWindow) → (ℕ → ℕ → Option ShownWindow) → List ℕ
+changed_services old new = service_texts (λ service. service_differs (old service) (new service)) new
+
+abbrev changed_service : (ℕ → ℕ → Option ShownWindow) → (ℕ → ℕ → Option ShownWindow) → ℕ → List ℕ
+changed_service old new service = if service_differs (old service) (new service) then service_text service (new service) else []
+
+-- the text of a channel that has a run, and that of a service of which a window is shown
+abbrev pub shown_channel : (Chan → Grid) → Chan → List ℕ
+shown_channel grids chan = if not (length (runs (grids chan)) == 0) then grid_text chan (grids chan) else []
+
+abbrev pub shown_service : (ℕ → ℕ → Option ShownWindow) → ℕ → List ℕ
+shown_service windows service = if not (length (shown_ids (windows service)) == 0) then service_text service (windows service) else []
+
 -- a channel that has a run, and one that has none
 pub some_runs : (chan : Chan) (grid : Grid) (count : ℕ) → count ≡ length (runs grid) → count ≢ 0
-    → grid_text chan grid ≡ (if length (runs grid) == 0 then [] else grid_text chan grid)
+    → grid_text chan grid ≡ (if not (length (runs grid) == 0) then grid_text chan grid else [])
 some_runs chan grid count is some =
     let no : length (runs grid) == 0 ≡ false = grind (arith, nat_tests) in
     sym (rw no refl)
 
-pub no_runs : (chan : Chan) (grid : Grid) (count : ℕ) → count ≡ length (runs grid) → count ≡ 0 → [] ≡ (if length (runs grid) == 0 then [] else grid_text chan grid)
+pub no_runs : (chan : Chan) (grid : Grid) (count : ℕ) → count ≡ length (runs grid) → count ≡ 0 → [] ≡ (if not (length (runs grid) == 0) then grid_text chan grid else [])
 no_runs chan grid count is none =
     let zero : length (runs grid) == 0 ≡ true = grind (arith, nat_tests) in
     sym (rw zero refl)
@@ -99,7 +123,6 @@ same_service old new same =
 
 pub same_services : (old new : ℕ → ℕ → Option ShownWindow) → HaveSameWindows old new
     → false ≡ services_differ old new
-unfolding services_differ
 same_services old new same =
     sym (any_same (λ service. service_differs (old service) (new service)) (λ service. false) 1 63
     (λ service from to. same_service (old service) (new service) (λ id small. same service id (record { from = from; to = omega (arith, to) }) small)) ∙ any_none 1 63)
@@ -113,7 +136,6 @@ number_at kept place = let back : place + 1 - 1 ≡ place = omega arith in ap (s
 
 pub kept_some : (are : ℕ → ℕ → Option ShownWindow) (was now : List Kept) (told : Bool) → KeepsServices are 63 was now told
     → told ≡ services_differ (λ service. seen_at was (service - 1)) are
-unfolding services_differ
 kept_some are was now told keeps =
     keeps.some
     ∙ any_same (λ i. service_differs (seen_at was i) (are (i + 1))) (λ i. service_differs (numbered was (i + 1)) (are (i + 1))) 0 63
@@ -141,7 +163,7 @@ pub changed_texts : (are : ℕ → ℕ → Option ShownWindow) (was now : List K
     → one ≡ services_differ (λ service. seen_at was (service - 1)) are
     → (one ≡ true → (place : ℕ) → place < 63 → changed_at now place ≡ service_differs (seen_at was place) (are (place + 1)))
     → (if one then changed_places now are else []) ≡ changed_services (λ service. seen_at was (service - 1)) are
-unfolding services_differ changed_services changed_places
+unfolding service_texts changed_places
 changed_texts are was now true some each =
     texts_same (λ place. if changed_at now place then service_text (place + 1) (are (place + 1)) else []) (λ place. changed_service (numbered was) are (place + 1)) 0 63
     (λ place from to. ap (λ (b : Bool). if b then service_text (place + 1) (are (place + 1)) else [])
@@ -154,12 +176,12 @@ changed_texts are was now false some each =
 pub changes_joined : (frame : ℕ) (old new : Screens) (one other : Bool) (texts : List ℕ)
     → one ≡ channels_differ old.grids new.grids → other ≡ services_differ old.windows new.windows
     → (one || other) ≡ true → texts ≡ changed_services old.windows new.windows
-    → frame_line frame ++ flat_map (changed_channel old.grids new.grids) channels ++ texts ≡ changes_text frame old new
+    → frame_line frame ++ changed_channels old.grids new.grids ++ texts ≡ changes_text frame old new
 unfolding changes_text
 changes_joined frame old new one other texts is_one is_other some are =
-    ap (λ t. frame_line frame ++ flat_map (changed_channel old.grids new.grids) channels ++ t) are
+    ap (λ t. frame_line frame ++ changed_channels old.grids new.grids ++ t) are
     ∙ text_if (channels_differ old.grids new.grids || services_differ old.windows new.windows)
-    (frame_line frame ++ flat_map (changed_channel old.grids new.grids) channels ++ changed_services old.windows new.windows)
+    (frame_line frame ++ changed_channels old.grids new.grids ++ changed_services old.windows new.windows)
     (ap (λ b. b || services_differ old.windows new.windows) (sym is_one) ∙ ap (λ b. one || b) (sym is_other) ∙ some)
 
 pub nothing_changed : (frame : ℕ) (old new : Screens) (one other : Bool)
@@ -168,7 +190,7 @@ pub nothing_changed : (frame : ℕ) (old new : Screens) (one other : Bool)
 unfolding changes_text
 nothing_changed frame old new one other is_one is_other none =
     none_if (channels_differ old.grids new.grids || services_differ old.windows new.windows)
-    (frame_line frame ++ flat_map (changed_channel old.grids new.grids) channels ++ changed_services old.windows new.windows)
+    (frame_line frame ++ changed_channels old.grids new.grids ++ changed_services old.windows new.windows)
     (ap (λ b. b || services_differ old.windows new.windows) (sym is_one) ∙ ap (λ b. one || b) (sym is_other) ∙ none)
 
 -- neither holds where not one of them does
@@ -187,21 +209,20 @@ any_of_four false false false false = refl
 -- some channel changes just where one of the four tests says so
 pub changes_told : (old new : Chan → Grid) (one two three four : Bool) → one ≡ grid_differs (old Cc1) (new Cc1) → two ≡ grid_differs (old Cc2) (new Cc2)
     → three ≡ grid_differs (old Cc3) (new Cc3) → four ≡ grid_differs (old Cc4) (new Cc4) → (((one || two) || three) || four) ≡ channels_differ old new
-unfolding channels_differ
 changes_told old new one two three four is_one is_two is_three is_four =
     rw (is_one, is_two, is_three, is_four) (any_of_four (grid_differs (old Cc1) (new Cc1)) (grid_differs (old Cc2) (new Cc2)) (grid_differs (old Cc3) (new Cc3)) (grid_differs (old Cc4) (new Cc4)))
 
 -- the text of all screens, of its parts
 pub all_joined : (frame : ℕ) (screens : Screens)
     → frame_line frame ++ shown_channel screens.grids Cc1 ++ shown_channel screens.grids Cc2 ++ shown_channel screens.grids Cc3 ++ shown_channel screens.grids Cc4
-    ++ shown_services screens.windows ≡ all_text frame screens
-unfolding all_text
+    ++ service_texts (λ service. not (length (shown_ids (screens.windows service)) == 0)) screens.windows ≡ all_text frame screens
+unfolding all_text channel_texts
 all_joined frame screens = simp (append_assoc, append-nil)
 
 -- the text of a channel that shows this grid
 pub grid_shown : (chan : Chan) (grid : Grid) (screens : Chan → Grid) → grid ≡ screens chan
-    → (if length (runs grid) == 0 then [] else grid_text chan grid) ≡ shown_channel screens chan
-grid_shown chan grid screens is = ap (λ g. if length (runs g) == 0 then [] else grid_text chan g) is
+    → (if not (length (runs grid) == 0) then grid_text chan grid else []) ≡ shown_channel screens chan
+grid_shown chan grid screens is = ap (λ g. if not (length (runs g) == 0) then grid_text chan g else []) is
 
 -- screens that look alike change alike
 same_differs : (a b new : ℕ → Option ShownWindow) → ((id : ℕ) → id < 8 → a id ≡ b id) → service_differs a new ≡ service_differs b new
@@ -211,13 +232,12 @@ same_differs a b new same =
     (λ id from to. ap (λ o. window_differs o (new id)) (same id (omega (arith, to))))
 
 services_alike : (a b new : ℕ → ℕ → Option ShownWindow) → HaveSameWindows a b → services_differ a new ≡ services_differ b new
-unfolding services_differ
 services_alike a b new same =
     any_same (λ service. service_differs (a service) (new service)) (λ service. service_differs (b service) (new service)) 1 63
     (λ service from to. same_differs (a service) (b service) (new service) (λ id small. same service id (record { from = from; to = omega (arith, to) }) small))
 
 texts_alike : (a b new : ℕ → ℕ → Option ShownWindow) → HaveSameWindows a b → changed_services a new ≡ changed_services b new
-unfolding changed_services
+unfolding service_texts
 texts_alike a b new same =
     texts_same (changed_service a new) (changed_service b new) 1 63
     (λ service from to. ap (λ t. if t then service_text service (new service) else [])
@@ -232,7 +252,6 @@ differ_alike a b new alike = rw (alike.grids, services_alike a.windows b.windows
 
 -- and don't change
 no_channel_differs : (grids : Chan → Grid) → false ≡ channels_differ grids grids
-unfolding channels_differ
 no_channel_differs grids =
     sym (rw (grid_differs-itself (grids Cc1), grid_differs-itself (grids Cc2), grid_differs-itself (grids Cc3), grid_differs-itself (grids Cc4)) refl)
 

@@ -4,9 +4,14 @@ use Rattle.std.proofs.lemmas.List.{length-append}
 use Rattle.std.proofs.lemmas.List.Concat.{flat_map-append}
 use Rattle.std.proofs.lemmas.List.Elements.{filter_map-append}
 use Rattle.std.specs.List.{cons_option, filter_map, flat_map, range_with_len}
+use Rattle.std.specs.Option.{option_map}
 use Rattle.dtvcc_windows.specs.Showing.{ShownWindow}
-use Rattle.grid_print.specs.WindowTexts.{window_text, with_id}
+use Rattle.grid_print.specs.WindowTexts.{window_text}
 use Rattle.grid_print.proofs.RunLemmas.{range_push}
+
+-- a window that is shown, with its id
+abbrev pub with_id : ℕ → Option ShownWindow → Option (ℕ × ShownWindow)
+with_id id window = option_map (λ window. (id, window)) window
 
 -- those below an id
 abbrev pub shown_below : (ℕ → Option ShownWindow) → ℕ → List (ℕ × ShownWindow)

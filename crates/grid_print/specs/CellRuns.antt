@@ -1,8 +1,7 @@
 -- Believed: the program's answer stands on these definitions.
--- The runs of rows of cells, as whole lists: by row, then column, the longest stretches of neighbouring cells of one row that are
--- written alike.
-use Rattle.std.specs.Prelude.{ℕ, zero, suc, Bool, false, if◌then◌else◌, List, Option, Some, None, drop, length, slice_index_or, take_while}
-use Rattle.std.specs.List.{filter_map, flat_map, range_with_len}
+-- The runs of a row of cells, as a whole list: by column, the longest stretches of neighbouring cells that are written alike.
+use Rattle.std.specs.Prelude.{ℕ, Bool, false, if◌then◌else◌, List, ◌∷◌, Option, Some, None, drop, length, slice_index_or, take_while}
+use Rattle.std.specs.List.{filter_map, range_with_len}
 use Rattle.std.specs.Option.{option_map}
 use Rattle.grid_print.specs.Writing.{Writing}
 
@@ -27,23 +26,12 @@ begun w left (Some cell) = if is_alike w cell left then None else Some cell
 abbrev pub front_text : {C : Type 0} → Writing C → C → List (Option C) → List ℕ
 front_text w first cells = filter_map (option_map w.ch) (take_while (is_alike w first) cells)
 
--- what stands on the left of a column of a row
-abbrev pub left_of : {C : Type 0} → List (Option C) → ℕ → Option C
-left_of cells zero = None
-left_of cells (suc col) = slice_index_or cells col None
-
--- the run from a column of a row on, of which this is the first cell
-abbrev pub run_from : {C : Type 0} → Writing C → ℕ → List (Option C) → ℕ → C → Run C
-run_from w row cells col first = record { row = row; col = col; first = first; text = front_text w first (drop col cells) }
-
--- the run that begins at a column of a row, if one does
+-- the run that begins at a column of a row, if one does; on the left of the first column stands nothing
 abbrev pub run_at : {C : Type 0} → Writing C → ℕ → List (Option C) → ℕ → Option (Run C)
-run_at w row cells col = option_map (run_from w row cells col) (begun w (left_of cells col) (slice_index_or cells col None))
+run_at w row cells col =
+    option_map (λ first. record { row = row; col = col; first = first; text = front_text w first (drop col cells) })
+    (begun w (slice_index_or (None ∷ cells) col None) (slice_index_or cells col None))
 
 -- the runs of a row
 unfoldable pub row_runs : {C : Type 0} → Writing C → ℕ → List (Option C) → List (Run C)
 row_runs w row cells = filter_map (run_at w row cells) (range_with_len 0 (length cells))
-
--- the runs of this many rows from one on, where `cells` are those of a row
-abbrev pub rows_runs : {C : Type 0} → Writing C → (ℕ → List (Option C)) → ℕ → ℕ → List (Run C)
-rows_runs w cells start count = flat_map (λ row. row_runs w row (cells row)) (range_with_len start count)

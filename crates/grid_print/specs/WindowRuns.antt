@@ -2,7 +2,8 @@
 -- The runs of a window: by row, then column, the longest stretches of neighbouring cells of one row with one pen and the same
 -- colours.
 use Rattle.std.specs.Prelude.{ℕ, List}
-use Rattle.grid_print.specs.CellRuns.{Run, row_runs, rows_runs}
+use Rattle.std.specs.List.{flat_map, range_with_len}
+use Rattle.grid_print.specs.CellRuns.{Run, row_runs}
 use Rattle.grid_print.specs.RunsOf.{Places}
 use Rattle.grid_print.specs.Writing.{in_pens}
 use Rattle.dtvcc_windows.specs.declared.cells.DCell.{DCell}
@@ -20,4 +21,4 @@ runs_in window row = row_runs in_pens row (window_row window.cells window.cols r
 
 -- the runs of a window
 unfoldable pub window_runs : ShownWindow → List (Run DCell)
-window_runs window = rows_runs in_pens (window_row window.cells window.cols) 0 window.rows
+window_runs window = flat_map (λ row. row_runs in_pens row (window_row window.cells window.cols row)) (range_with_len 0 window.rows)

@@ -1,25 +1,21 @@
 -- Believed: the program's answer stands on these definitions.
 -- The texts of caption windows: of each visible window what is shown of it, and its runs.
-use Rattle.std.specs.Prelude.{ℕ, ◌++◌, Bool, if◌then◌else◌, List, [], ◌∷◌, Option, Some, None, codes, decimal, encode_utf8_all, length}
+use Rattle.std.specs.Prelude.{ℕ, ◌++◌, Bool, if◌then◌else◌, List, [], ◌∷◌, Option, codes, decimal, encode_utf8_all, length}
 use Rattle.std.specs.List.{filter_map, flat_map, range_with_len}
+use Rattle.std.specs.Option.{option_map}
 use Rattle.cc_base.specs.Texts.{text}
 use Rattle.dtvcc_codes.specs.declared.pens.Fill.{Fill}
 use Rattle.dtvcc_codes.specs.declared.pens.PenAttr.{PenAttr}
 use Rattle.dtvcc_codes.specs.declared.pens.PenColors.{PenColors}
-use Rattle.dtvcc_codes.specs.declared.pens.Rgb.{Rgb}
 use Rattle.dtvcc_codes.specs.declared.windows.WinAttr.{WinAttr}
 use Rattle.dtvcc_windows.specs.declared.cells.DCell.{DCell}
 use Rattle.dtvcc_windows.specs.Showing.{ShownWindow}
 use Rattle.grid_print.specs.CellRuns.{Run}
 use Rattle.grid_print.specs.WindowRuns.{window_runs}
 
--- a space and a number
-abbrev pub spaced : ℕ → List ℕ
-spaced number = codes " " ++ decimal number
-
 -- numbers, each after a space
 abbrev pub all_spaced : List ℕ → List ℕ
-all_spaced numbers = flat_map spaced numbers
+all_spaced numbers = flat_map (λ number. codes " " ++ decimal number) numbers
 
 -- numbers without spaces
 abbrev pub all_joined : List ℕ → List ℕ
@@ -29,15 +25,9 @@ all_joined numbers = flat_map decimal numbers
 abbrev pub flag : Bool → ℕ
 flag on = if on then 1 else 0
 
--- a colour with what stands before it, its opacity or its kind
-abbrev pub colour_digits : ℕ → Rgb → List ℕ
-colour_digits first colour = all_joined (first ∷ colour.r ∷ colour.g ∷ colour.b ∷ [])
-
+-- a colour with its opacity
 abbrev pub fill_digits : Fill → List ℕ
 fill_digits fill = all_joined (fill.opacity ∷ fill.r ∷ fill.g ∷ fill.b ∷ [])
-
-abbrev pub rgb_digits : Rgb → List ℕ
-rgb_digits colour = all_joined (colour.r ∷ colour.g ∷ colour.b ∷ [])
 
 -- where a window stands and how large it is
 abbrev pub place_text : ShownWindow → List ℕ
@@ -51,7 +41,8 @@ place_text w = text (
 abbrev pub attributes_text : WinAttr → List ℕ
 attributes_text a = text (
     codes " attr" ∷ all_spaced (a.justify ∷ a.print ∷ a.scroll ∷ flag a.wrap ∷ a.effect ∷ a.effect_dir ∷ a.effect_speed ∷ [])
-    ∷ codes " fill " ∷ fill_digits a.fill ∷ codes " border " ∷ colour_digits a.border_kind a.border ∷ [])
+    ∷ codes " fill " ∷ fill_digits a.fill
+    ∷ codes " border " ∷ all_joined (a.border_kind ∷ a.border.r ∷ a.border.g ∷ a.border.b ∷ []) ∷ [])
 
 -- the line of a window, with the number of its runs
 unfoldable pub window_line : ℕ → ShownWindow → List ℕ
@@ -64,7 +55,9 @@ pen_attributes_text p = all_spaced (p.size ∷ p.font ∷ p.tag ∷ p.offset ∷
 
 -- its colours
 abbrev pub colors_text : PenColors → List ℕ
-colors_text c = text (codes " " ∷ fill_digits c.fg ∷ codes " " ∷ fill_digits c.bg ∷ codes " " ∷ rgb_digits c.edge ∷ codes " " ∷ [])
+colors_text c = text (
+    codes " " ∷ fill_digits c.fg ∷ codes " " ∷ fill_digits c.bg
+    ∷ codes " " ∷ all_joined (c.edge.r ∷ c.edge.g ∷ c.edge.b ∷ []) ∷ codes " " ∷ [])
 
 -- the line of a run: its row and column, its pen and colours, and its characters in UTF-8
 unfoldable pub window_run_line : Run DCell → List ℕ
@@ -74,16 +67,12 @@ window_run_line run = text (decimal run.row ∷ all_spaced (run.col ∷ []) ∷ 
 unfoldable pub window_text : ℕ → ShownWindow → List ℕ
 window_text id w = window_line id w ++ flat_map window_run_line (window_runs w)
 
--- a window that is shown, with its id
-abbrev pub with_id : ℕ → Option ShownWindow → Option (ℕ × ShownWindow)
-with_id id None = None
-with_id id (Some window) = Some (id, window)
-
--- the windows of a service that are shown, by id
+-- the windows of a service that are shown, each with its id, by id
 abbrev pub shown_ids : (ℕ → Option ShownWindow) → List (ℕ × ShownWindow)
-shown_ids windows = filter_map (λ id. with_id id (windows id)) (range_with_len 0 8)
+shown_ids windows = filter_map (λ id. option_map (λ window. (id, window)) (windows id)) (range_with_len 0 8)
 
 -- the text of a service: its name and the number of windows that are shown, and then these by id
 unfoldable pub service_text : ℕ → (ℕ → Option ShownWindow) → List ℕ
 service_text service windows = text (
-    codes "S" ∷ decimal service ∷ spaced (length (shown_ids windows)) ∷ codes "\n" ∷ flat_map (λ one. window_text one.0 one.1) (shown_ids windows) ∷ [])
+    codes "S" ∷ decimal service ∷ codes " " ∷ decimal (length (shown_ids windows)) ∷ codes "\n"
+    ∷ flat_map (λ one. window_text one.0 one.1) (shown_ids windows) ∷ [])

@@ -6,7 +6,6 @@ use Rattle.line21_codes.specs.SameStyles.{same_style}
 use Rattle.line21_codes.specs.declared.styles.Cell.{Cell}
 use Rattle.dtvcc_codes.specs.declared.pens.Fill.{Fill}
 use Rattle.dtvcc_codes.specs.declared.pens.PenAttr.{PenAttr}
-use Rattle.dtvcc_codes.specs.declared.pens.PenColors.{PenColors}
 use Rattle.dtvcc_codes.specs.declared.pens.Rgb.{Rgb}
 use Rattle.dtvcc_windows.specs.declared.cells.DCell.{DCell}
 
@@ -25,9 +24,6 @@ same_rgb a b = a.r == b.r && (a.g == b.g && a.b == b.b)
 abbrev pub same_fill : Fill → Fill → Bool
 same_fill a b = a.opacity == b.opacity && (a.r == b.r && (a.g == b.g && a.b == b.b))
 
-abbrev pub same_colors : PenColors → PenColors → Bool
-same_colors a b = same_fill a.fg b.fg && (same_fill a.bg b.bg && same_rgb a.edge b.edge)
-
 abbrev pub same_pen : PenAttr → PenAttr → Bool
 same_pen a b =
     a.size == b.size
@@ -35,7 +31,9 @@ same_pen a b =
     && (a.tag == b.tag && (a.offset == b.offset && (beq a.italic b.italic && (beq a.underline b.underline && a.edge == b.edge)))))
 
 unfoldable pub written_alike : DCell → DCell → Bool
-written_alike a b = same_pen a.pen b.pen && same_colors a.colors b.colors
+written_alike a b =
+    same_pen a.pen b.pen
+    && (same_fill a.colors.fg b.colors.fg && (same_fill a.colors.bg b.colors.bg && same_rgb a.colors.edge b.colors.edge))
 
 abbrev pub in_pens : Writing DCell
 in_pens = record { alike = written_alike; ch = λ cell. cell.ch }

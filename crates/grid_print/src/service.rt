@@ -1,4 +1,4 @@
-ghost use Rattle.std.specs.Prelude.{◌≡◌, ◌==◌, ◌<◌, ◌+◌, if◌then◌else◌, List, [], None, Some, MatchOption, IfSome, IsTrue, is_some, length, ℕ, Option};
+ghost use Rattle.std.specs.Prelude.{◌≡◌, ◌==◌, not, ◌<◌, ◌+◌, if◌then◌else◌, List, [], None, Some, MatchOption, IfSome, IsTrue, is_some, length, ℕ, Option};
 ghost use Rattle.std.specs.List.{flat_map};
 ghost use Rattle.dtvcc_windows.specs.Showing.{ShownWindow};
 ghost use Rattle.dtvcc_services.specs.Numbers.{IsService};
@@ -6,7 +6,7 @@ ghost use Rattle.dtvcc_windows.specs.Objects.{is_live, state_of, window_of};
 ghost use Rattle.dtvcc_windows.specs.Showing.{as_shown, shown};
 ghost use Rattle.text_output.specs.Pages.{Adds, WritesSome, page};
 ghost use Rattle.grid_print.specs.WindowTexts.{service_text, shown_ids, window_text};
-ghost use Rattle.grid_print.specs.GridTexts.{shown_service, shown_services};
+ghost use Rattle.grid_print.specs.GridTexts.{service_texts};
 
 use crate::write_window;
 use cc_base::Sink;
@@ -115,7 +115,9 @@ fn write_if_shown<G: Grids, O: Sink>(r: &G, service: u8, text: &mut Gathered, ou
     ensures some { WritesSome (page text.old (O.written out.old) (O.faults out.old))
         (page text.new (O.written out.new) (O.faults out.new)) }
     ensures text { (seen : ℕ → ℕ → Option ShownWindow) → G.shows r.now seen
-        → Adds O.written O.faults text.old out.old text.new out.new (shown_service seen service) }
+        → Adds O.written O.faults text.old out.old text.new out.new
+        (if not (length (shown_ids (seen service)) == 0) then service_text service (seen service)
+        else []) }
 {
     if seen_count(r, service) != 0 {
         write_service(r, service, text, out);
@@ -127,7 +129,8 @@ pub(crate) fn write_shown_services<G: Grids, O: Sink>(r: &G, text: &mut Gathered
     ensures some { WritesSome (page text.old (O.written out.old) (O.faults out.old))
         (page text.new (O.written out.new) (O.faults out.new)) }
     ensures text { (seen : ℕ → ℕ → Option ShownWindow) → G.shows r.now seen
-        → Adds O.written O.faults text.old out.old text.new out.new (shown_services seen) }
+        → Adds O.written O.faults text.old out.old text.new out.new
+        (service_texts (λ service. not (length (shown_ids (seen service)) == 0)) seen) }
 {
     for place in 0..SERVICES {
         write_if_shown(r, service_at(place), text, out);

@@ -1,5 +1,5 @@
 ghost use Rattle.std.specs.Prelude.{◌≡◌, ℕ, List, Option, if◌then◌else◌, [], ◌∷◌, None, false, IfOk, vec_len, length};
-ghost use Rattle.std.specs.List.{flat_map};
+ghost use Rattle.std.specs.List.{list_any};
 ghost use Rattle.dtvcc_windows.specs.Showing.{ShownWindow};
 ghost use Rattle.cdp_packets.specs.Packets.{Frame};
 ghost use Rattle.cc_receiver.specs.ReceivedServices.{received_windows};
@@ -8,7 +8,7 @@ ghost use Rattle.line21_screen.specs.Differences.{grid_differs};
 ghost use Rattle.line21_screen.specs.Objects.{grid_in};
 ghost use Rattle.text_output.specs.Pages.{Adds, WritesSome, page};
 ghost use Rattle.grid_print.specs.WindowTexts.{service_text};
-ghost use Rattle.grid_print.specs.GridTexts.{changed_channel, channels, grid_text};
+ghost use Rattle.grid_print.specs.GridTexts.{all_services, channel_texts, channels, grid_text};
 ghost use Rattle.dtvcc_services.specs.Numbers.{IsService};
 ghost use Rattle.grid_print.specs.Kept.{KeepsServices, changed_places, seen_at};
 ghost use Rattle.grid_print.specs.Differing.{TellsDifference};
@@ -43,7 +43,7 @@ impl Shown {
     ghost use Rattle.std.specs.Prelude.{◌<◌, ◌+◌, ◌++◌, true};
     ghost use Rattle.cc_base.specs.Streams.{PutCause, Puts};
     ghost use Rattle.line21_screen.specs.Grid.{empty_grid};
-    ghost use Rattle.grid_print.specs.GridTexts.{changes_text, channels_differ, frame_line, screens_differ, service_differs, services_differ};
+    ghost use Rattle.grid_print.specs.GridTexts.{changes_text, frame_line, screens_differ, service_differs};
     ghost use Rattle.grid_print.specs.Changed.{HaveChanged};
     ghost use Rattle.grid_print.specs.Differing.{TellsChannels};
     ghost use Rattle.grid_print.specs.Kept.{changed_at};
@@ -168,7 +168,9 @@ impl Shown {
     fn keep_services<G: Grids>(&mut self, r: &G, touched: bool) -> bool
         ensures some { (seen : ℕ → ℕ → Option ShownWindow) → G.shows r.now seen
             → (touched ≡ false → HaveSameWindows (last_shown self.old).windows seen)
-            → result ≡ services_differ (last_shown self.old).windows seen }
+            → result ≡ list_any
+            (λ service. service_differs ((last_shown self.old).windows service) (seen service))
+            all_services }
         ensures now { (seen : ℕ → ℕ → Option ShownWindow) → G.shows r.now seen
             → (touched ≡ false → HaveSameWindows (last_shown self.old).windows seen)
             → HaveSameWindows (last_shown self.new).windows seen }
@@ -197,8 +199,8 @@ impl Shown {
             (page text.new (O.written out.new) (O.faults out.new)) }
         ensures text { (seen : ℕ → ℕ → Option ShownWindow) → G.shows r.now seen
             → Adds O.written O.faults text.old out.old text.new out.new
-            (frame_line frame ++ flat_map
-            (changed_channel (last_grid self.old) (G.grids r.now)) channels
+            (frame_line frame ++ channel_texts
+            (λ chan. grid_differs (last_grid self.old chan) (G.grids r.now chan)) (G.grids r.now)
             ++ (if services then changed_places self.old.services.items seen else [])) }
         ensures now { last_grid self.new ≡ G.grids r.now }
         ensures services { self.new.services ≡ self.old.services }
@@ -236,7 +238,8 @@ impl Shown {
     )
         requires { TellsChannels (last_grid self.old) (G.grids r.now) differing }
         ensures text { Adds O.written O.faults text.old out.old text.new out.new
-            (flat_map (changed_channel (last_grid self.old) (G.grids r.now)) channels) }
+            (channel_texts (λ chan. grid_differs (last_grid self.old chan) (G.grids r.now chan))
+            (G.grids r.now)) }
         ensures now { last_grid self.new ≡ G.grids r.now }
         ensures services { self.new.services ≡ self.old.services }
     {

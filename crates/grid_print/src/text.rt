@@ -1,4 +1,4 @@
-ghost use Rattle.std.specs.Prelude.{◌≡◌, ◌≤◌, ◌==◌, if◌then◌else◌, List, [], encode_utf8_all, length};
+ghost use Rattle.std.specs.Prelude.{◌≡◌, ◌≤◌, ◌==◌, not, if◌then◌else◌, List, [], encode_utf8_all, length};
 ghost use Rattle.std.specs.List.{flat_map};
 ghost use Rattle.line21_screen.specs.Objects.{grid_in};
 ghost use Rattle.text_output.specs.Pages.{Adds};
@@ -32,8 +32,8 @@ pub(crate) fn write_grid_unless_empty<O: Sink>(
     out: &mut O,
 )
     ensures { Adds O.written O.faults text.old out.old text.new out.new
-        (if length (runs (grid_in memory.now)) == 0 then [] else grid_text chan
-        (grid_in memory.now)) }
+        (if not (length (runs (grid_in memory.now)) == 0) then grid_text chan
+        (grid_in memory.now) else []) }
 {
     if run_count(memory) != 0 {
         write_grid(chan, memory, text, out);

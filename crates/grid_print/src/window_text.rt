@@ -1,4 +1,4 @@
-ghost use Rattle.std.specs.Prelude.{◌≡◌, ◌≤◌, ◌<◌, ℕ, List, IsTrue, decimal, encode_utf8_all, length};
+ghost use Rattle.std.specs.Prelude.{◌≡◌, ◌≤◌, ◌<◌, ◌++◌, ℕ, List, IsTrue, codes, decimal, encode_utf8_all, length};
 ghost use Rattle.std.specs.List.{flat_map};
 ghost use Rattle.dtvcc_windows.specs.Objects.{is_live, state_of};
 ghost use Rattle.dtvcc_windows.specs.Showing.{as_shown};
@@ -6,7 +6,7 @@ ghost use Rattle.dtvcc_windows.specs.Windows.{WindowState};
 ghost use Rattle.text_output.specs.Pages.{Adds};
 ghost use Rattle.grid_print.specs.CellRuns.{front_text, row_runs};
 ghost use Rattle.grid_print.specs.Writing.{in_pens};
-ghost use Rattle.grid_print.specs.WindowTexts.{all_joined, all_spaced, attributes_text, colors_text, flag, pen_attributes_text, place_text, spaced, window_line, window_run_line, window_text};
+ghost use Rattle.grid_print.specs.WindowTexts.{all_joined, all_spaced, attributes_text, colors_text, flag, pen_attributes_text, place_text, window_line, window_run_line, window_text};
 
 use crate::window_runs::run_count;
 use crate::{begun, write_front};
@@ -158,7 +158,7 @@ fn write_spaced<O: Sink>(numbers: &[u8], text: &mut Gathered, out: &mut O)
 
 // Writes a space and a number.
 fn write_one_spaced<O: Sink>(number: u8, text: &mut Gathered, out: &mut O)
-    ensures { Adds O.written O.faults text.old out.old text.new out.new (spaced number) }
+    ensures { Adds O.written O.faults text.old out.old text.new out.new (codes " " ++ decimal number) }
 {
     text.write(b" ", out);
     write_small(number, text, out);

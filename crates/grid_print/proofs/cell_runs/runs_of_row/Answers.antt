@@ -1,8 +1,8 @@
 use Rattle.std.proofs.Common.{◌≡◌, ◌+◌, ◌≤◌, ◌∙◌, length, get_or, is_some, None, if◌then◌else◌, ap, sym, arith, Bool}
 use Rattle.std.proofs.lemmas.List.{get_or_default}
 use Rattle.std.specs.List.{filter_map, range_with_len}
-use Rattle.grid_print.specs.CellRuns.{begun, left_of, row_runs, run_at}
-use Rattle.grid_print.proofs.RunLemmas.{left_next, runs_counted}
+use Rattle.grid_print.specs.CellRuns.{begun, row_runs, run_at}
+use Rattle.grid_print.proofs.RunLemmas.{left_next, left_of, runs_counted}
 use Rattle.grid_print.proofs.cell_runs.runs_of_row.Goals as goal
 use Rattle.grid_print.proofs.cell_runs.runs_of_row.Goals.{then-is_some, else-is_some}
 

@@ -1,6 +1,7 @@
 use Rattle.std.proofs.Common.{◌≡◌, ◌≤◌, ℕ, length}
 use Rattle.std.specs.List.{filter_map, range_with_len}
-use Rattle.grid_print.specs.CellRuns.{left_of, run_at}
+use Rattle.grid_print.specs.CellRuns.{run_at}
+use Rattle.grid_print.proofs.RunLemmas.{left_of}
 use Rattle.grid_print.proofs.cell_runs.runs_of_row.Given as goal
 
 -- the runs that begin so far are counted

@@ -1,8 +1,9 @@
 use Rattle.std.proofs.Common.{◌≡◌, ◌+◌, ◌++◌, ◌∙◌, ap, arith}
 use Rattle.std.specs.List.{flat_map, range_with_len}
 use Rattle.text_output.proofs.PageLemmas.{some_none, some_then, writes_none, writes_same, writes_then}
-use Rattle.grid_print.specs.GridTexts.{shown_service, shown_services}
+use Rattle.grid_print.specs.GridTexts.{service_texts}
 use Rattle.grid_print.proofs.NumberLemmas.{texts_more, texts_shift}
+use Rattle.grid_print.proofs.ScreenLemmas.{shown_service}
 use Rattle.grid_print.proofs.service.write_shown_services.Goals as goal
 
 pub loop-place-init : goal.loop-place-init
@@ -22,7 +23,7 @@ pub returns-clause-some : goal.returns-clause-some
 returns-clause-some g c = c.loop-place.invariant.some
 
 pub returns-clause-text : goal.returns-clause-text
-unfolding shown_services
+unfolding service_texts
 returns-clause-text g c seen behind =
     let all : c.loop-place.place ≡ 63 = omega arith in
     writes_same _ _ _ _

@@ -3,7 +3,7 @@ use Rattle.std.specs.List.{flat_map, range_with_len}
 use Rattle.std.specs.Prelude.{ℕ, Option}
 use Rattle.dtvcc_windows.specs.Showing.{ShownWindow}
 use Rattle.text_output.specs.Pages.{Writes, WritesSome, page}
-use Rattle.grid_print.specs.GridTexts.{shown_service}
+use Rattle.grid_print.proofs.ScreenLemmas.{shown_service}
 use Rattle.grid_print.proofs.service.write_shown_services.Given as goal
 
 -- the texts of the services at the places so far seen written

@@ -3,9 +3,9 @@ use Rattle.std.proofs.lemmas.List.{append-nil, take_rest}
 use Rattle.std.specs.List.{filter_map, flat_map, range_with_len}
 use Rattle.text_output.proofs.PageLemmas.{written_same}
 use Rattle.grid_print.specs.GridTexts.{run_line}
-use Rattle.grid_print.specs.CellRuns.{begun, left_of, row_runs, run_at}
+use Rattle.grid_print.specs.CellRuns.{begun, row_runs, run_at}
 use Rattle.grid_print.specs.Writing.{in_styles}
-use Rattle.grid_print.proofs.RunLemmas.{left_next, lines_kept, lines_more}
+use Rattle.grid_print.proofs.RunLemmas.{left_next, left_of, lines_kept, lines_more}
 use Rattle.grid_print.proofs.text.write_row.Goals as goal
 use Rattle.grid_print.proofs.text.write_row.Goals.{in-Some, in_default}
 

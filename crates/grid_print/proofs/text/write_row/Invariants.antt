@@ -2,8 +2,9 @@ use Rattle.std.proofs.Common.{◌≡◌}
 use Rattle.std.specs.List.{filter_map, flat_map, range_with_len}
 use Rattle.text_output.specs.Pages.{Writes, page}
 use Rattle.grid_print.specs.GridTexts.{run_line}
-use Rattle.grid_print.specs.CellRuns.{left_of, run_at}
+use Rattle.grid_print.specs.CellRuns.{run_at}
 use Rattle.grid_print.specs.Writing.{in_styles}
+use Rattle.grid_print.proofs.RunLemmas.{left_of}
 use Rattle.grid_print.proofs.text.write_row.Given as goal
 
 -- the lines of the runs that begin so far are written

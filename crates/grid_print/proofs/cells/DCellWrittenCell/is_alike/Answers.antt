@@ -1,5 +1,6 @@
 use Rattle.std.proofs.Common.{◌&&◌, ◌∙◌, Bool, sym, ap}
-use Rattle.grid_print.specs.Writing.{same_colors, written_alike}
+use Rattle.grid_print.specs.Writing.{written_alike}
+use Rattle.grid_print.proofs.AlikeLemmas.{same_colors}
 use Rattle.grid_print.proofs.cells.DCellWrittenCell.is_alike.Goals as goal
 
 pub returns-then-eq : goal.returns-then-eq

@@ -1,10 +1,10 @@
 use Rattle.std.proofs.Common.{◌∙◌, ◌-◌, ◌||◌, Bool, ap, subst, sym}
 use Rattle.std.proofs.lemmas.Bool.{true≢false}
-use Rattle.grid_print.specs.GridTexts.{channels_differ}
 use Rattle.grid_print.specs.Kept.{seen_at}
 use Rattle.grid_print.specs.Screens.{HaveSameWindows, LookAlike, screens_of}
 use Rattle.grid_print.specs.Shown.{last_grid, last_shown}
 use Rattle.grid_print.proofs.DifferingLemmas.{some_differ, none_differ}
+use Rattle.grid_print.proofs.ScreenLemmas.{channels_differ}
 use Rattle.grid_print.proofs.shown.Shown.pass_of.Goals as goal
 use Rattle.grid_print.proofs.shown.Shown.pass_of.Goals.{then-some, else-some}
 

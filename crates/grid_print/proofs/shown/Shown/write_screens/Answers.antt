@@ -1,15 +1,14 @@
 use Rattle.std.proofs.Common.{◌++◌, ◌∙◌, ◌-◌, [], if◌then◌else◌, ap, subst, sym}
-use Rattle.std.specs.List.{flat_map}
 use Rattle.text_output.proofs.PageLemmas.{some_none, writes_none, writes_same}
 use Rattle.line21_codes.specs.declared.channels.Chan.{Chan}
 use Rattle.line21_screen.specs.Grid.{Grid}
 use Rattle.grid_print.specs.Differing.{TellsChannels}
-use Rattle.grid_print.specs.GridTexts.{changed_channel, channels, frame_line}
+use Rattle.grid_print.specs.GridTexts.{frame_line}
 use Rattle.grid_print.specs.Kept.{changed_places, seen_at}
 use Rattle.grid_print.specs.Screens.{HaveSameWindows, screens_of}
 use Rattle.grid_print.specs.Shown.{last_grid, last_shown}
 use Rattle.grid_print.proofs.DifferingLemmas.{none_differ, some_differ}
-use Rattle.grid_print.proofs.ScreenLemmas.{changed_texts, changes_joined, neither, nothing_changed}
+use Rattle.grid_print.proofs.ScreenLemmas.{changed_channels, changed_texts, changes_joined, neither, nothing_changed}
 use Rattle.grid_print.proofs.shown.Shown.write_screens.Goals as goal
 
 pub write_differing-requires : goal.write_differing-requires
@@ -25,7 +24,7 @@ returns-then-changed-clause-text g c seen behind same =
     let services = c.keep_services-services.result in
     let texts = if services then changed_places now.services.items seen else [] in
     writes_same _ _ _ _
-    (ap (λ was. frame_line c.args.frame ++ flat_map (changed_channel was (g.G.Grids.grids c.args.r.now)) channels ++ texts) c.keep_services-services.ensures.grids
+    (ap (λ was. frame_line c.args.frame ++ changed_channels was (g.G.Grids.grids c.args.r.now) ++ texts) c.keep_services-services.ensures.grids
     ∙ changes_joined c.args.frame old new c.any.result services texts
     (some_differ (last_grid c.args.self.now) (g.G.Grids.grids c.args.r.now) c.channels_differ-differing.result c.any.result c.channels_differ-differing.ensures c.any.ensures.some) (c.keep_services-services.ensures.some seen behind same) c.if-changed.true
     (changed_texts seen c.args.self.now.services.items now.services.items services (c.keep_services-services.ensures.some seen behind same)
