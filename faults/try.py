@@ -380,7 +380,7 @@ def with_field_two(words, pairs):
 
 def commands():
     """Each command with its cases, and the sizes of the pieces in which they are read."""
-    usage = b"usage: ccsuite pairs|build|decode|show FRAME|verify CUES|insert CUES|import|export TIME|cues|load N|dual CUES|xds PACKETS|xds-show|conceal|convert|import-mcc|export-mcc RATE TIME|fit N|help|version\n"
+    usage = b"usage: ccsuite pairs|build|decode|show FRAME|verify CUES|insert CUES|import [TIME]|export TIME|cues|load N|dual CUES|xds PACKETS|xds-show|conceal|convert|import-mcc|export-mcc RATE TIME|fit N|help|version\n"
     yield "usage", [Case(it, b"x", 1, usage) for it in ([], ["load", "0"], ["load", "03"], ["show"], ["show", "01"], ["pairs", "x"], ["xds-show", "x"], ["conceal", "x"], ["convert", "x"], ["import-mcc", "x"], ["export-mcc", "30", "00:00:00;00"], ["fit"], ["fit", "1001"], ["help", "x"], ["version", "1"], ["pairs", "\udcff"])], []
     hello = example("hello.csv")
     dense = hello.replace(b",0,7,20", b",0,6,20")

@@ -119,7 +119,7 @@ pub extern "C" fn ccsuite_xds_show(
     report.status
 }
 
-/// Reads an SCC file, and writes words that carry its pairs, as the command `import`.
+/// Reads an SCC file, and writes words that carry its pairs, as the command `import` without a time code.
 #[unsafe(no_mangle)]
 pub extern "C" fn ccsuite_import(
     alloc: Global,
@@ -127,10 +127,10 @@ pub extern "C" fn ccsuite_import(
     out: &mut [u8],
     report: &mut Report,
 ) -> u32
-    ensures ran { RunsInMemory command.Import scc.now [] out.old out.new report.new }
+    ensures ran { RunsInMemory (command.Import None) scc.now [] out.old out.new report.new }
     ensures status { result ≡ report.new.status }
 {
-    *report = run_in_memory(alloc, Command::Import, scc, &[], out);
+    *report = run_in_memory(alloc, Command::Import(None), scc, &[], out);
     report.status
 }
 

@@ -6,7 +6,7 @@ use Rattle.ccsuite_cli.specs.Command.{Argument, Arguments, Behind, Nothing, Opti
 -- four words and more
 none_behind : (one other more : List ℕ) (words : List (List ℕ)) (behind : Behind) → with_arguments (one ∷ other ∷ more ∷ words) behind ≡ None
 none_behind one other more words (Nothing command) = refl
-none_behind one other more words (Optional command several) = refl
+none_behind one other more words (Optional shown command several) = refl
 none_behind one other more words (Argument name command) = refl
 none_behind one other more words (Arguments name another command) = refl
 

@@ -1,6 +1,6 @@
 -- Believed in part: the program's answer stands on some of these definitions.
 -- The command lines of the program: the words of each command, the line of usage, and the side file that a command reads.
-use Rattle.std.specs.Prelude.{◌≡◌, ◌≤◌, ◌++◌, ◌&&◌, not, ℕ, List, [], ◌∷◌, Option, option_map, Some, None, codes, if◌then◌else◌, Bool, true, false, ⊤}
+use Rattle.std.specs.Prelude.{◌≡◌, ◌≤◌, ◌++◌, ◌&&◌, not, ℕ, List, [], ◌∷◌, Option, option_map, Some, None, codes, if◌then◌else◌, Bool, IfSome, true, false, ⊤}
 use Rattle.std.specs.List.{join_by}
 use Rattle.std.specs.Option.{option_and_then, option_or}
 use Rattle.cue_lists.specs.Fields.{named, number_within}
@@ -51,17 +51,18 @@ mcc_of rate time = option_and_then (λ count. option_map (λ start. ExportMcc co
 
 -- a command whose time code, if it has one, is of the day, and whose number, if it has one, is that of a load or of a fit
 abbrev pub IsRunnable : Option Command → Type 0
+IsRunnable (Some (Import time)) = IfSome time (λ start. is_time_code start ≡ true)
 IsRunnable (Some (Export time)) = is_time_code time ≡ true
 IsRunnable (Some (ExportMcc count time)) = is_time_code_in count time ≡ true
 IsRunnable (Some (Load count)) = (1 ≤ count) × (count ≤ most_load)
 IsRunnable (Some (Fit late)) = late ≤ most_late
 IsRunnable _ = ⊤
 
--- what follows the word of a command: nothing, or nothing or one argument, or one or two arguments, by their names in the line of
--- usage, which make it a command, if they make it one
+-- what follows the word of a command: nothing, or nothing or one argument, by what the line of usage has of it, or one or two arguments,
+-- by their names there, which make it a command, if they make it one
 pub data Behind : Type 0 where
   Nothing : Command → Behind
-  Optional : Command → (List ℕ → Option Command) → Behind
+  Optional : List ℕ → Command → (List ℕ → Option Command) → Behind
   Argument : List ℕ → (List ℕ → Option Command) → Behind
   Arguments : List ℕ → List ℕ → (List ℕ → List ℕ → Option Command) → Behind
 
@@ -74,7 +75,7 @@ commands =
     ∷ (codes "show", Argument (codes "FRAME") (λ frame. option_map Show (number_within 0 last_frame frame)))
     ∷ (codes "verify", Argument (codes "CUES") (λ path. Some Verify))
     ∷ (codes "insert", Argument (codes "CUES") (λ path. Some Insert))
-    ∷ (codes "import", Nothing Import)
+    ∷ (codes "import", Optional (codes " [TIME]") (Import None) (λ time. option_map (λ start. Import (Some start)) (start_of time)))
     ∷ (codes "export", Argument (codes "TIME") (λ time. option_map Export (start_of time)))
     ∷ (codes "cues", Nothing Cues)
     ∷ (codes "load", Argument (codes "N") (λ count. option_map Load (number_within 1 most_load count)))
@@ -86,7 +87,7 @@ commands =
     ∷ (codes "import-mcc", Nothing ImportMcc)
     ∷ (codes "export-mcc", Arguments (codes "RATE") (codes "TIME") (λ rate time. mcc_of rate time))
     ∷ (codes "fit", Argument (codes "N") (λ late. option_map Fit (number_within 0 most_late late)))
-    ∷ (codes "help", Optional (Help Commands) (λ word. option_map Help (page_of word)))
+    ∷ (codes "help", Optional [] (Help Commands) (λ word. option_map Help (page_of word)))
     ∷ (codes "version", Nothing Version)
     ∷ []
 
@@ -101,8 +102,8 @@ other_words =
 -- the command of what follows its word, if these arguments make it one
 abbrev pub with_arguments : List (List ℕ) → Behind → Option Command
 with_arguments [] (Nothing command) = Some command
-with_arguments [] (Optional command more) = Some command
-with_arguments (argument ∷ []) (Optional command more) = more argument
+with_arguments [] (Optional shown command more) = Some command
+with_arguments (argument ∷ []) (Optional shown command more) = more argument
 with_arguments (argument ∷ []) (Argument name command) = command argument
 with_arguments (one ∷ other ∷ []) (Arguments name another command) = command one other
 with_arguments _ _ = None
@@ -129,7 +130,7 @@ side_path _ = None
 -- how the line of usage has a command
 abbrev pub usage_of : List ℕ × Behind → List ℕ
 usage_of (word, Nothing command) = word
-usage_of (word, Optional command more) = word
+usage_of (word, Optional shown command more) = word ++ shown
 usage_of (word, Argument name command) = word ++ codes " " ++ name
 usage_of (word, Arguments name another command) = word ++ codes " " ++ name ++ codes " " ++ another
 

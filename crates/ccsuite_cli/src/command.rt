@@ -30,8 +30,9 @@ pub enum Command {
     Verify,
     /// `insert CUES`: a words file with the captions of the cue list of the side file in place of its own.
     Insert,
-    /// `import`: the words that carry the pairs of an SCC file.
-    Import,
+    /// `import`, and `import TIME`: the words that carry the pairs of an SCC file, whose frame 0 has this time code, if it is given, and
+    /// else that of the first line.
+    Import(Option<TimeCode>),
     /// `export TIME`: the SCC file of the field 1 pairs of a words file, whose frame 0 has this time code.
     Export(TimeCode),
     /// `load N`: what comes of a list of this many captions, 1 to 10,000.
@@ -61,7 +62,7 @@ pub enum Command {
 
 /// The line for words that are no command.
 pub(crate) const USAGE: &[u8] =
-    b"usage: ccsuite pairs|build|decode|show FRAME|verify CUES|insert CUES|import|export TIME|cues|load N|dual CUES|xds PACKETS|xds-show|conceal|convert|import-mcc|export-mcc RATE TIME|fit N|help|version\n";
+    b"usage: ccsuite pairs|build|decode|show FRAME|verify CUES|insert CUES|import [TIME]|export TIME|cues|load N|dual CUES|xds PACKETS|xds-show|conceal|convert|import-mcc|export-mcc RATE TIME|fit N|help|version\n";
 
 /// The last frame that `show` can name.
 const LAST_FRAME: u64 = 4_294_967_294;
@@ -110,7 +111,7 @@ fn read_word(word: &str) -> Option<Command>
         "build" => Some(Command::Build),
         "cues" => Some(Command::Cues),
         "decode" => Some(Command::Decode),
-        "import" => Some(Command::Import),
+        "import" => Some(Command::Import(None)),
         "xds-show" => Some(Command::XdsShow),
         "conceal" => Some(Command::Conceal),
         "convert" => Some(Command::Convert),
@@ -122,7 +123,7 @@ fn read_word(word: &str) -> Option<Command>
 }
 
 /// The command of a word and its argument: `show` with the number of a frame, `verify`, `insert`, `dual` and `xds` with the path of a
-/// side file, whatever it is, `export` with a time code, `load` with the number of captions, `fit` with a number of frames, `help`
+/// side file, whatever it is, `import` and `export` with a time code, `load` with the number of captions, `fit` with a number of frames, `help`
 /// with the word of a command.
 fn read_two(word: &str, argument: &str) -> Option<Command>
     ensures command { result ≡ command_of (word.now ∷ argument.now ∷ []) }
@@ -134,6 +135,10 @@ fn read_two(word: &str, argument: &str) -> Option<Command>
         "insert" => Some(Command::Insert),
         "dual" => Some(Command::Dual),
         "xds" => Some(Command::Xds),
+        "import" => match read_start(argument) {
+            Some(time) => Some(Command::Import(Some(time))),
+            None => None,
+        },
         "export" => match read_start(argument) {
             Some(time) => Some(Command::Export(time)),
             None => None,

@@ -111,7 +111,7 @@ pub fn perform<M: Source, S: Source, O: Sink>(
         Command::Show(frame) => run_show(alloc, frame, input, out),
         Command::Verify => run_verify(alloc, input, side, out),
         Command::Insert => run_insert(alloc, input, side, out),
-        Command::Import => run_import(alloc, input, out),
+        Command::Import(time) => run_import(alloc, time, input, out),
         Command::Export(time) => run_export(alloc, time, input, out),
         Command::Load(count) => run_load(alloc, count, out),
         Command::Dual => run_dual(alloc, input, side, out),

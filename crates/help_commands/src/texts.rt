@@ -22,7 +22,7 @@ check
   verify CUES           ok, or the first frame at which words differ from a list
   insert CUES           words with a list's captions in place of their own
 files
-  import                the words of an SCC file
+  import [TIME]         the words of an SCC file
   export TIME           the SCC file of words
   import-mcc            the words of an MCC file
   export-mcc RATE TIME  the MCC file of words
@@ -220,15 +220,16 @@ example:
 
 /// The page on `import`.
 pub const IMPORT_PAGE: &[u8] = b"\
-ccsuite import < CITY.scc > CITY.words
+ccsuite import [TIME] < CITY.scc > CITY.words
 
 reads:  an SCC file
-writes: its pairs as words at 29.97 frames a second; the first frame is that of
-  the first time code
+takes:  TIME, the time code of frame 0, with a semicolon where the file's have
+  it; without it frame 0 is that of the first time code
+writes: its pairs as words at 29.97 frames a second
 status: 5 limit, 6 malformed; 2 read fault, 3 write fault, 4 out of memory
 
 example:
-  ccsuite import < examples/city.scc > city.words
+  ccsuite import '01:00:00;00' < examples/city.scc > city.words
 ";
 
 /// The page on `export`.

@@ -1,5 +1,5 @@
 -- The file that `export` puts is an SCC file of just the pairs that were exported.
-use Rattle.std.proofs.Common.{◌≡◌, ◌+◌, ◌%◌, ◌<◌, ◌≤◌, ◌++◌, ◌==◌, arith, length, map, refl, suc, subst, ℕ, Bool, List, [], ◌∷◌, false, true}
+use Rattle.std.proofs.Common.{◌≡◌, ◌+◌, ◌%◌, ◌<◌, ◌≤◌, ◌++◌, ◌==◌, arith, length, map, refl, suc, subst, ℕ, Bool, List, [], ◌∷◌, None, Some, false, true}
 use Rattle.std.specs.Prelude.{◌&&◌}
 use Rattle.std.specs.List.{AllByRecursion, concat, flat_map}
 use Rattle.anc_words.specs.Packets.{AncillaryPacket, user_bytes}
@@ -15,7 +15,7 @@ use Rattle.time_codes.specs.Frames.{frame_number}
 use Rattle.time_codes.specs.declared.time_code.TimeCode.{TimeCode}
 use Rattle.words_files.specs.Frames.{CarryFrames, IsFileOf}
 use Rattle.words_files.specs.Received.{field_pair}
-use Rattle.scc_files.proofs.RoundTrip.{written_is_file}
+use Rattle.scc_files.proofs.RoundTrip.{written_is_file, written_is_placed}
 use Rattle.scc_commands.specs.Export.{AreExported, export_file, exported, exported_from, pairs_of}
 use Rattle.scc_commands.proofs.WrittenLemmas.{AreWithinDay, HaveNoFinding, at_number}
 
@@ -123,8 +123,17 @@ exported_writable time number (frame ∷ frames) (are, have) (one, none) within 
     next_writable time number (pairs_of frame) (exported_from (suc number) frames) one.one (pairs_are frame are) within
     (λ rest. exported_writable time (suc number) frames have none rest)
 
+pub exported_are_writable : (time : TimeCode) (frames : List Frame) (bytes : List ℕ) → IsFileOf frames bytes → AreExported time frames
+    → AreWritable (frame_number time) time.drop_frame 0 (exported frames)
+exported_are_writable time frames bytes file good =
+    exported_writable time 0 frames (carried_bytes file.packets frames file.carried) good.no_finding good.within_day
+
 pub exported_is_file : (time : TimeCode) (frames : List Frame) (bytes : List ℕ) → IsFileOf frames bytes → AreExported time frames
-    → IsSccFile (counted (pairs_not_null (exported frames))) (export_file time frames)
+    → IsSccFile None (counted (pairs_not_null (exported frames))) (export_file time frames)
 exported_is_file time frames bytes file good =
-    written_is_file (exported frames) (frame_number time) time.drop_frame
-    (exported_writable time 0 frames (carried_bytes file.packets frames file.carried) good.no_finding good.within_day)
+    written_is_file (exported frames) (frame_number time) time.drop_frame (exported_are_writable time frames bytes file good)
+
+pub exported_is_placed : (time : TimeCode) (frames : List Frame) (bytes : List ℕ) → IsFileOf frames bytes → AreExported time frames
+    → IsSccFile (Some (frame_number time)) (pairs_not_null (exported frames)) (export_file time frames)
+exported_is_placed time frames bytes file good =
+    written_is_placed (exported frames) (frame_number time) time.drop_frame (exported_are_writable time frames bytes file good)

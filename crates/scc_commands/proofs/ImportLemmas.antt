@@ -29,7 +29,7 @@ use Rattle.command_base.specs.WholeInput.{JudgesInput}
 use Rattle.command_base.specs.declared.status.Status.{Status}
 use Rattle.command_base.specs.declared.status.Status.TheVariants as status
 use Rattle.scc_commands.specs.Cursors.{Passes}
-use Rattle.scc_commands.specs.Import.{IsCarriedImport, IsImport, IsRefusedImport, PlacedPairs, import_columns, import_words, pair_at}
+use Rattle.scc_commands.specs.Import.{IsCarriedImport, IsImport, IsRefusedImport, PlacedPairs, ReadsImport, import_columns, import_words, pair_at}
 use Rattle.scc_commands.specs.ImportSteps.{ArePlaced, fault_status, frame_with}
 use Rattle.scc_commands.proofs.WrittenLemmas.{gathered_failed, gathered_more}
 
@@ -166,28 +166,33 @@ words_flushed pairs left frame frames carrier held kept old new after answer on 
     flushed old new after held kept (import_words pairs) answer (words_ended pairs left frame frames carrier held old new on ended) flushes
 
 -- the refusals of an import are refusals
-pub import_refusals : AreRefusals IsRefusedImport
-import_refusals bytes status.Ok refused = absurd refused
-import_refusals bytes status.Usage refused = absurd refused
-import_refusals bytes status.ReadFault refused = absurd refused
-import_refusals bytes status.WriteFault refused = absurd refused
-import_refusals bytes _ refused = tt
+pub import_refusals : (opening : Option ℕ) → AreRefusals (IsRefusedImport opening)
+import_refusals opening bytes status.Ok refused = absurd refused
+import_refusals opening bytes status.Usage refused = absurd refused
+import_refusals opening bytes status.ReadFault refused = absurd refused
+import_refusals opening bytes status.WriteFault refused = absurd refused
+import_refusals opening bytes _ refused = tt
 
 -- a file that isn't read is refused so
-pub fault_refused : (bytes : List ℕ) (f : SccFault) → length bytes ≤ whole_limit → FileAnswers bytes (Err f)
-    → JudgesInput IsImport IsRefusedImport bytes (Err (fault_status f))
-fault_refused bytes (fault.Memory error) within answers = tt
-fault_refused bytes (fault.Limit limit.Bytes) within answers = absurd answers
-fault_refused bytes (fault.Limit limit.Frames) within answers = (within, answers)
-fault_refused bytes (fault.Limit limit.Cues) within answers = absurd answers
-fault_refused bytes (fault.Limit limit.Packet) within answers = absurd answers
-fault_refused bytes (fault.Limit limit.Day) within answers = absurd answers
-fault_refused bytes (fault.Malformed refusal) within answers = (within, answers.0)
+pub fault_refused : (opening : Option ℕ) (bytes : List ℕ) (f : SccFault) → length bytes ≤ whole_limit → FileAnswers opening bytes (Err f)
+    → JudgesInput (IsImport opening) (IsRefusedImport opening) bytes (Err (fault_status f))
+fault_refused opening bytes (fault.Memory error) within answers = tt
+fault_refused opening bytes (fault.Limit limit.Bytes) within answers = absurd answers
+fault_refused opening bytes (fault.Limit limit.Frames) within answers = (within, answers)
+fault_refused opening bytes (fault.Limit limit.Cues) within answers = absurd answers
+fault_refused opening bytes (fault.Limit limit.Packet) within answers = absurd answers
+fault_refused opening bytes (fault.Limit limit.Day) within answers = absurd answers
+fault_refused opening bytes (fault.Malformed refusal) within answers = (within, answers.0)
+
+-- where frame 0 stands alike, an input is read alike
+pub reads_alike : (one other : Option ℕ) (old new : Option (List ℕ)) (before now : ℕ) (r : Result PlacedPairs Status) → one ≡ other
+    → ReadsImport one old new before now r → ReadsImport other old new before now r
+reads_alike one other old new before now r same reads = subst (λ (o : Option ℕ). ReadsImport o old new before now r) same reads
 
 -- one that is read stands at frames of the day in order
-pub placed_read : (bytes : List ℕ) (r : Result PlacedPairs Status) → JudgesInput IsImport IsRefusedImport bytes r → IfOk r ArePlaced
-placed_read bytes (Ok pairs) is = record { rising = file_rises pairs bytes is.file; few = is.few }
-placed_read bytes (Err s) is = tt
+pub placed_read : (opening : Option ℕ) (bytes : List ℕ) (r : Result PlacedPairs Status) → JudgesInput (IsImport opening) (IsRefusedImport opening) bytes r → IfOk r ArePlaced
+placed_read opening bytes (Ok pairs) is = record { rising = file_rises opening pairs bytes is.file; few = is.few }
+placed_read opening bytes (Err s) is = tt
 
 -- all pairs of columns are bytes
 pair_bytes : (pairs : PlacedPairs) (frame : ℕ) → AreBytes pairs → IsBytePair (pair_at pairs frame)
@@ -203,17 +208,17 @@ columns_bytes pairs are One frame = pair_bytes pairs frame are
 columns_bytes pairs are Two frame = record { a = omega arith; b = omega arith }
 
 -- the words of a file within the limits carry just its pairs
-pub carried_import : (bytes : List ℕ) (pairs : PlacedPairs) → IsImport bytes pairs → IsCarriedImport pairs
-carried_import bytes pairs is =
-    frames_carried rate.F2997 (import_columns pairs) (frames_of pairs) (columns_bytes pairs (file_bytes pairs bytes is.file))
+pub carried_import : (opening : Option ℕ) (bytes : List ℕ) (pairs : PlacedPairs) → IsImport opening bytes pairs → IsCarriedImport pairs
+carried_import opening bytes pairs is =
+    frames_carried rate.F2997 (import_columns pairs) (frames_of pairs) (columns_bytes pairs (file_bytes opening pairs bytes is.file))
     (quiet_bytes (import_columns pairs) (λ frame. refl)) (quiet_roomy rate.F2997 (import_columns pairs) (λ frame. refl))
 
 -- they were put, or a front of them
-pub import_put : (answer : Put) (left old new : Option (List ℕ)) (pairs : PlacedPairs) → IfSome left (λ bytes. IsImport bytes pairs) → Puts old new answer (import_words pairs)
-    → IfSome left (λ bytes. PutsMade IsImport import_words IsCarriedImport answer bytes old new)
-import_put answer None old new pairs is puts = tt
-import_put answer (Some bytes) old new pairs is puts =
-    (import_words pairs, (pairs, is, refl, carried_import bytes pairs is), puts)
+pub import_put : (opening : Option ℕ) (answer : Put) (left old new : Option (List ℕ)) (pairs : PlacedPairs) → IfSome left (λ bytes. IsImport opening bytes pairs) → Puts old new answer (import_words pairs)
+    → IfSome left (λ bytes. PutsMade (IsImport opening) import_words IsCarriedImport answer bytes old new)
+import_put opening answer None old new pairs is puts = tt
+import_put opening answer (Some bytes) old new pairs is puts =
+    (import_words pairs, (pairs, is, refl, carried_import opening bytes pairs is), puts)
 
 pub frames_are : (pairs rest : PlacedPairs) (last : ℕ × Pair) → pairs ≡ rest ++ last ∷ [] → last.0 + 1 ≡ frames_of pairs
 frames_are pairs rest last is = sym (ap frames_of is ∙ frames_behind rest 0 last)

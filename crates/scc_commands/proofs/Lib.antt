@@ -7,3 +7,4 @@ pub mod ImportVerdictLemmas
 pub mod ImportEveryLemmas
 pub mod RoundTripLemmas
 pub mod WrittenLemmas
+pub mod ComeBackLemmas

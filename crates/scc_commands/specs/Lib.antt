@@ -3,3 +3,4 @@ pub mod Cursors
 pub mod ImportSteps
 pub mod Export
 pub mod Exporting
+pub mod ComeBack

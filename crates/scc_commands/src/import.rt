@@ -1,10 +1,11 @@
-ghost use Rattle.std.specs.Prelude.{◌≡◌, ◌≤◌, IfOk, length};
+ghost use Rattle.std.specs.Prelude.{◌≡◌, ◌≤◌, IfOk, IfSome, length, true};
 ghost use Rattle.cc_base.specs.Streams.{PutCause, Puts, whole_limit};
 ghost use Rattle.command_base.specs.Ends.{ends};
 ghost use Rattle.command_base.specs.Realises.{RealisesAlone};
 ghost use Rattle.command_base.specs.WholeInput.{JudgesInput};
 ghost use Rattle.scc_files.specs.Reading.{frames_of};
-ghost use Rattle.scc_commands.specs.Import.{ImportVerdict, IsImport, IsRefusedImport, ReadsImport, import_words, most_import_frames};
+ghost use Rattle.scc_commands.specs.Import.{ImportVerdict, IsImport, IsRefusedImport, ReadsImport, import_words, most_import_frames, opening_of};
+ghost use Rattle.time_codes.specs.TimeCodes.{is_time_code};
 ghost use Rattle.scc_commands.specs.ImportSteps.{ArePlaced, fault_status, frame_with};
 
 use crate::cursor::Cursor;
@@ -16,20 +17,28 @@ use line21_codes::{NULL_PAIR, Pair};
 use scc_files::{SccFault, SccPairs, read_scc};
 use std::alloc::Global;
 use text_output::Gathered;
+use time_codes::{TimeCode, frame_of};
 
 /// Reads an SCC file to its end and judges it, and then puts the ancillary packets of its frames, gathered so that a put has many:
-/// at 29.97 frames a second, from that of the first time code to that of the last pair, each with the pair at the frame in
-/// field 1 and the null pair in field 2.
+/// at 29.97 frames a second, from that of `time` to that of the last pair, each with the pair at the frame in field 1 and the null pair
+/// in field 2. Without `time` the first frame is that of the first time code; a frame of the day must have a given one. A file without
+/// pairs has no frames.
 ///
 /// Malformed comes exactly at the file's first offence, Limit (Bytes) where it has more than 67,108,864 bytes, and Limit
-/// (Frames) where it has more than 2,592,000 frames; then nothing is put.
-pub fn run_import<M: Source, O: Sink>(alloc: Global, input: &mut M, out: &mut O) -> Status
-    ensures { RealisesAlone ImportVerdict
+/// (Frames) where it has more than 2,592,000 frames; then nothing is put. A first time code before `time` is Backwards.
+pub fn run_import<M: Source, O: Sink>(
+    alloc: Global,
+    time: Option<TimeCode>,
+    input: &mut M,
+    out: &mut O,
+) -> Status
+    requires { IfSome time (λ t. is_time_code t ≡ true) }
+    ensures { RealisesAlone (ImportVerdict time)
         (ends (M.left input.old) (M.faults input.old) (O.written out.old) (O.faults out.old))
         (ends (M.left input.new) (M.faults input.new) (O.written out.new)
         (O.faults out.new)) result }
 {
-    match read_pairs(alloc, input) {
+    match read_pairs(alloc, opening_of(time), input) {
         Ok(pairs) => match put_words(pairs, out) {
             Put::Done => Status::Ok,
             Put::Failed => Status::WriteFault,
@@ -38,22 +47,38 @@ pub fn run_import<M: Source, O: Sink>(alloc: Global, input: &mut M, out: &mut O)
     }
 }
 
-/// Reads an SCC file to its end and judges it. Gives its pairs, or the status with which it is refused.
-fn read_pairs<M: Source>(alloc: Global, input: &mut M) -> Result<SccPairs, Status>
-    ensures reads { ReadsImport (M.left input.old) (M.left input.new) (M.faults input.old)
+/// The frame of the day of a time code, which a frame of the day must have.
+fn opening_of(time: Option<TimeCode>) -> Option<u32>
+    requires { IfSome time (λ t. is_time_code t ≡ true) }
+    ensures { result ≡ opening_of time }
+{
+    match time {
+        Some(time) => frame_of(time).ok(),
+        None => None,
+    }
+}
+
+/// Reads an SCC file, whose frame 0 is at `opening` or at its first time code, to its end and judges it. Gives its pairs, or the status
+/// with which it is refused.
+fn read_pairs<M: Source>(
+    alloc: Global,
+    opening: Option<u32>,
+    input: &mut M,
+) -> Result<SccPairs, Status>
+    ensures reads { ReadsImport opening (M.left input.old) (M.left input.new) (M.faults input.old)
         (M.faults input.new) result }
     ensures placed { IfOk result ArePlaced }
 {
     let bytes = read_input(alloc, input)?;
-    judge(alloc, &bytes)
+    judge(alloc, opening, &bytes)
 }
 
 /// Judges the bytes of an SCC file.
-fn judge(alloc: Global, bytes: &[u8]) -> Result<SccPairs, Status>
+fn judge(alloc: Global, opening: Option<u32>, bytes: &[u8]) -> Result<SccPairs, Status>
     requires { length bytes.now ≤ whole_limit }
-    ensures { JudgesInput IsImport IsRefusedImport bytes.now result }
+    ensures { JudgesInput (IsImport opening) (IsRefusedImport opening) bytes.now result }
 {
-    match read_scc(alloc, bytes) {
+    match read_scc(alloc, opening, bytes) {
         Ok(pairs) => Ok(pairs),
         Err(fault) => Err(status_of(fault)),
     }

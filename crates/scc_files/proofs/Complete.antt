@@ -274,12 +274,12 @@ lines_read j (Some line ∷ lines) p bytes out (end, spelled, rest, is_end, is_l
     (timed_read j p s line spelled rest more is_line judge (lines_read j lines (after_pairs s (line.first ∷ line.more)) rest more are_lines placed))))
 
 -- a whole file
-pub form_read : (j : Bool) (lines : List (Option TimedLine)) (bytes : List ℕ) (out : List (ℕ × Pair)) → IsForm lines bytes → Placed j at_first_frame lines out
-    → read_from j 0 at_first bytes ≡ Ok out
-form_read j lines bytes out form placed =
-    let rest = lines_read j lines at_first_frame form.rest out form.are_lines placed phase.FirstSpaces first_ends in
-    let spaces = first_spaces j at_first_frame form.spaces form.rest out form.are_spaces rest in
-    ap (λ z. read_from j 0 at_first z) form.spelled ∙ spaces.at 18
+pub form_read : (opening : Option ℕ) (j : Bool) (lines : List (Option TimedLine)) (bytes : List ℕ) (out : List (ℕ × Pair)) → IsForm lines bytes → Placed j (at_first_frame opening) lines out
+    → read_from j 0 (at_first opening) bytes ≡ Ok out
+form_read opening j lines bytes out form placed =
+    let rest = lines_read j lines (at_first_frame opening) form.rest out form.are_lines placed phase.FirstSpaces first_ends in
+    let spaces = first_spaces j (at_first_frame opening) form.spaces form.rest out form.are_spaces rest in
+    ap (λ z. read_from j 0 (at_first opening) z) form.spelled ∙ spaces.at 18
 
 -- where pairs more stand, counted
 pub after_is : (pairs : List Pair) (p : Position) → after_pairs p pairs ≡ pairs_on p (length pairs)
@@ -323,7 +323,7 @@ timed_placed (Some line ∷ lines) p (frame, is, low, rest) =
     )
 
 -- an SCC file is read as its pairs
-pub file_read : (pairs : List (ℕ × Pair)) (bytes : List ℕ) → IsSccFile pairs bytes → read_file bytes ≡ Ok pairs
-file_read pairs bytes file =
-    form_read true file.lines bytes pairs file.form
-    (subst (λ (z : List (ℕ × Pair)). Placed true at_first_frame file.lines z) (sym file.placed) (timed_placed file.lines at_first_frame file.timed))
+pub file_read : (opening : Option ℕ) (pairs : List (ℕ × Pair)) (bytes : List ℕ) → IsSccFile opening pairs bytes → read_file opening bytes ≡ Ok pairs
+file_read opening pairs bytes file =
+    form_read opening true file.lines bytes pairs file.form
+    (subst (λ (z : List (ℕ × Pair)). Placed true (at_first_frame opening) file.lines z) (sym file.placed) (timed_placed file.lines (at_first_frame opening) file.timed))

@@ -67,36 +67,36 @@ completes_first j at p early =
     let read = first_reads (17 - at) at j p (omega arith) in
     record { more = drop at first_text; reads = λ place. record { out = []; is = read.at place } }
 
-pub completes : (to : Phase) (j : Bool) (p : Position) (before : List ℕ) → Origin before (record { phase = to; position = p })
+pub completes : (opening : Option ℕ) (to : Phase) (j : Bool) (p : Position) (before : List ℕ) → Origin opening before (record { phase = to; position = p })
     → IsText to ⊎ Completes j (record { phase = to; position = p })
-completes (phase.First at) j p before origin = inr (completes_first j at p origin)
-completes phase.FirstSpaces j p before origin = inr (record { more = []; reads = λ place. record { out = []; is = refl } })
-completes phase.FirstEnd j p before origin = inr (record { more = 10 ∷ []; reads = λ place. record { out = []; is = refl } })
-completes phase.Start j p before origin = inr (record { more = []; reads = λ place. record { out = []; is = refl } })
-completes phase.Blank j p before origin = inr (record { more = []; reads = λ place. record { out = []; is = refl } })
-completes phase.End j p before origin = inr (record { more = 10 ∷ []; reads = λ place. record { out = []; is = refl } })
-completes (phase.Text at text) j p before origin = inl tt
-completes (phase.Timed text) j p before origin =
+completes opening (phase.First at) j p before origin = inr (completes_first j at p origin)
+completes opening phase.FirstSpaces j p before origin = inr (record { more = []; reads = λ place. record { out = []; is = refl } })
+completes opening phase.FirstEnd j p before origin = inr (record { more = 10 ∷ []; reads = λ place. record { out = []; is = refl } })
+completes opening phase.Start j p before origin = inr (record { more = []; reads = λ place. record { out = []; is = refl } })
+completes opening phase.Blank j p before origin = inr (record { more = []; reads = λ place. record { out = []; is = refl } })
+completes opening phase.End j p before origin = inr (record { more = 10 ∷ []; reads = λ place. record { out = []; is = refl } })
+completes opening (phase.Text at text) j p before origin = inl tt
+completes opening (phase.Timed text) j p before origin =
     inr (record { more = 32 ∷ 56 ∷ 48 ∷ 56 ∷ 48 ∷ []; reads = λ place. record { out = (p.next, record { a = 128; b = 128 }) ∷ []; is = refl } })
-completes phase.Gap j p before origin =
+completes opening phase.Gap j p before origin =
     inr (record { more = 56 ∷ 48 ∷ 56 ∷ 48 ∷ []; reads = λ place. record { out = (p.next, record { a = 128; b = 128 }) ∷ []; is = refl } })
-completes (phase.One value) j p before origin =
+completes opening (phase.One value) j p before origin =
     inr (record { more = 48 ∷ 56 ∷ 48 ∷ []; reads = λ place. record { out = (p.next, record { a = 16 * value + 0; b = 128 }) ∷ []; is = refl } })
-completes (phase.Two first) j p before origin =
+completes opening (phase.Two first) j p before origin =
     inr (record { more = 56 ∷ 48 ∷ []; reads = λ place. record { out = (p.next, record { a = first; b = 128 }) ∷ []; is = refl } })
-completes (phase.Three first value) j p before origin =
+completes opening (phase.Three first value) j p before origin =
     inr (record { more = 48 ∷ []; reads = λ place. record { out = (p.next, record { a = first; b = 16 * value + 0 }) ∷ []; is = refl } })
-completes (phase.Whole pair) j p before origin = inr (record { more = []; reads = λ place. record { out = []; is = refl } })
-completes phase.Between j p before origin = inr (record { more = []; reads = λ place. record { out = []; is = refl } })
+completes opening (phase.Whole pair) j p before origin = inr (record { more = []; reads = λ place. record { out = []; is = refl } })
+completes opening phase.Between j p before origin = inr (record { more = []; reads = λ place. record { out = []; is = refl } })
 
 -- files that begin with bytes
-pub begins_file : (before : List ℕ) (s : Reader) → reach true at_first before ≡ Some s → Completes true s → BeginsFile before
-begins_file before s reaches c =
-    let all = replay true before c.more at_first s 0 reaches c.reads in
-    record { more = c.more; pairs = all.out; file = file_sound all.out (before ++ c.more) all.is }
+pub begins_file : (opening : Option ℕ) (before : List ℕ) (s : Reader) → reach true (at_first opening) before ≡ Some s → Completes true s → BeginsFile opening before
+begins_file opening before s reaches c =
+    let all = replay true before c.more (at_first opening) s 0 reaches c.reads in
+    record { more = c.more; pairs = all.out; file = file_sound opening all.out (before ++ c.more) all.is }
 
-pub file_form : (bytes : List ℕ) → BeginsFile bytes → BeginsForm bytes
-file_form bytes b = record { more = b.more; lines = b.file.lines; form = b.file.form }
+pub file_form : (opening : Option ℕ) (bytes : List ℕ) → BeginsFile opening bytes → BeginsForm bytes
+file_form opening bytes b = record { more = b.more; lines = b.file.lines; form = b.file.form }
 
 -- a text that fits is one of a time code
 pub and_true : (p q : Bool) → p ≡ true → q ≡ true → (p && q) ≡ true
@@ -151,8 +151,8 @@ pub filler_fits : AllFit 0 filler
 filler_fits = (refl, (refl, (refl, (refl, (refl, (refl, (refl, (refl, (refl, (refl, (refl, tt)))))))))))
 
 -- a line whose text is filled
-pub form_of_text : (before : List ℕ) (at : ℕ) (text : List ℕ) (p : Position) → TextOrigin before at text p → BeginsForm before
-form_of_text before at text p o =
+pub form_of_text : (opening : Option ℕ) (before : List ℕ) (at : ℕ) (text : List ℕ) (p : Position) → TextOrigin opening before at text p → BeginsForm before
+form_of_text opening before at text p o =
     let front = take at text in
     let tail = drop at filler in
     let size : length front ≡ at = length-take-le at text (omega (arith, o.size, o.early)) in
@@ -181,53 +181,53 @@ form_of_text before at text p o =
       are_words = tt;
       spelled = refl;
     } in
-    let form = same_phase o.start (phase.First 0) at_first_frame at_first_frame (record { phase = phase.Start; position = p }) o.reaches in
+    let form = same_phase o.start (phase.First 0) (at_first_frame opening) (at_first_frame opening) (record { phase = phase.Start; position = p }) o.reaches in
     let q = form.at in
     let line_reads = timed_read false q q line spelled [] [] is_line refl (lines_read false [] (after_pairs q (null ∷ [])) [] [] refl refl) in
-    let all = replay false o.start (spelled ++ []) at_first (record { phase = phase.Start; position = q }) 0 form.reaches
+    let all = replay false o.start (spelled ++ []) (at_first opening) (record { phase = phase.Start; position = q }) 0 form.reaches
     (λ place. record { out = one_a_frame q.next (null ∷ []) ++ []; is = line_reads.at place }) in
-    let file = form_sound false 0 (o.start ++ (spelled ++ [])) all.out all.is in
+    let file = form_sound opening false 0 (o.start ++ (spelled ++ [])) all.out all.is in
     let more = tail ++ (32 ∷ ([] ++ (word ++ []))) in
     let same : o.start ++ (spelled ++ []) ≡ before ++ more =
     ap (λ z. o.start ++ z) (append-nil spelled ∙ append_assoc front tail (32 ∷ ([] ++ (word ++ []))))
     ∙ (sym (append_assoc o.start front more) ∙ ap (λ z. z ++ more) (sym o.is)) in
     record { more = more; lines = file.lines; form = subst (λ (z : List ℕ). IsForm file.lines z) same file.form }
 
-pub open_text : (before : List ℕ) (to : Phase) (p : Position) → Origin before (record { phase = to; position = p }) → IsText to → IsUnoffendingText before
-open_text before (phase.Text at text) p o is_text =
+pub open_text : (opening : Option ℕ) (before : List ℕ) (to : Phase) (p : Position) → Origin opening before (record { phase = to; position = p }) → IsText to → IsUnoffendingText opening before
+open_text opening before (phase.Text at text) p o is_text =
     let size : length (take at text) ≡ at = length-take-le at text (omega (arith, o.size, o.early)) in
     record {
       start = o.start;
       open_text = take at text;
       spelled = o.is;
       within = inr (o.ends, omega (arith, size, o.early));
-      begins = begins_file o.start (record { phase = phase.Start; position = p }) o.reaches (record { more = []; reads = λ place. record { out = []; is = refl } });
-      form = form_of_text before at text p o;
+      begins = begins_file opening o.start (record { phase = phase.Start; position = p }) o.reaches (record { more = []; reads = λ place. record { out = []; is = refl } });
+      form = form_of_text opening before at text p o;
     }
-open_text before (phase.First at) p o is_text = absurd is_text
-open_text before phase.FirstSpaces p o is_text = absurd is_text
-open_text before phase.FirstEnd p o is_text = absurd is_text
-open_text before phase.Start p o is_text = absurd is_text
-open_text before phase.Blank p o is_text = absurd is_text
-open_text before phase.End p o is_text = absurd is_text
-open_text before (phase.Timed text) p o is_text = absurd is_text
-open_text before phase.Gap p o is_text = absurd is_text
-open_text before (phase.One value) p o is_text = absurd is_text
-open_text before (phase.Two first) p o is_text = absurd is_text
-open_text before (phase.Three first value) p o is_text = absurd is_text
-open_text before (phase.Whole pair) p o is_text = absurd is_text
-open_text before phase.Between p o is_text = absurd is_text
+open_text opening before (phase.First at) p o is_text = absurd is_text
+open_text opening before phase.FirstSpaces p o is_text = absurd is_text
+open_text opening before phase.FirstEnd p o is_text = absurd is_text
+open_text opening before phase.Start p o is_text = absurd is_text
+open_text opening before phase.Blank p o is_text = absurd is_text
+open_text opening before phase.End p o is_text = absurd is_text
+open_text opening before (phase.Timed text) p o is_text = absurd is_text
+open_text opening before phase.Gap p o is_text = absurd is_text
+open_text opening before (phase.One value) p o is_text = absurd is_text
+open_text opening before (phase.Two first) p o is_text = absurd is_text
+open_text opening before (phase.Three first value) p o is_text = absurd is_text
+open_text opening before (phase.Whole pair) p o is_text = absurd is_text
+open_text opening before phase.Between p o is_text = absurd is_text
 
 -- nothing offends in bytes that are taken
-pub unoffending : (before : List ℕ) (to : Phase) (p : Position) → reach true at_first before ≡ Some (record { phase = to; position = p })
-    → Origin before (record { phase = to; position = p }) → IsUnoffendingText before
-unoffending before to p reaches origin =
+pub unoffending : (opening : Option ℕ) (before : List ℕ) (to : Phase) (p : Position) → reach true (at_first opening) before ≡ Some (record { phase = to; position = p })
+    → Origin opening before (record { phase = to; position = p }) → IsUnoffendingText opening before
+unoffending opening before to p reaches origin =
     ⊎_elim
-    (λ is_text. open_text before to p origin is_text)
+    (λ is_text. open_text opening before to p origin is_text)
     (λ c.
-    let begins = begins_file before (record { phase = to; position = p }) reaches c in
-    record { start = before; open_text = []; spelled = sym (append-nil before); within = inl refl; begins = begins; form = file_form before begins })
-    (completes to true p before origin)
+    let begins = begins_file opening before (record { phase = to; position = p }) reaches c in
+    record { start = before; open_text = []; spelled = sym (append-nil before); within = inl refl; begins = begins; form = file_form opening before begins })
+    (completes opening to true p before origin)
 
 -- lines in form have pairs
 pub form_placed : (lines : List (Option TimedLine)) (p : Position) → (out : Pairs) × Placed false p lines out
@@ -237,37 +237,37 @@ form_placed (Some line ∷ lines) p =
     let (more, placed) = form_placed lines (after_pairs p (line.first ∷ line.more)) in
     (one_a_frame p.next (line.first ∷ line.more) ++ more, (p, more, refl, placed, refl))
 
-pub form_reads : (lines : List (Option TimedLine)) (bytes : List ℕ) → IsForm lines bytes → ReadsAll false at_first bytes 0
-form_reads lines bytes form =
-    let (out, placed) = form_placed lines at_first_frame in
-    record { out = out; is = form_read false lines bytes out form placed }
+pub form_reads : (opening : Option ℕ) (lines : List (Option TimedLine)) (bytes : List ℕ) → IsForm lines bytes → ReadsAll false (at_first opening) bytes 0
+form_reads opening lines bytes form =
+    let (out, placed) = form_placed lines (at_first_frame opening) in
+    record { out = out; is = form_read opening false lines bytes out form placed }
 
 -- no file in form can continue with a byte that no phase can continue with
-pub byte_offends : (before : List ℕ) (byte : ℕ) (s : Reader) → reach true at_first before ≡ Some s → phase_after s.phase byte ≡ None → BeginsForm (before ++ byte ∷ []) → ⊥
-byte_offends before byte s reaches stuck begins =
-    let form = same_phase before (phase.First 0) at_first_frame at_first_frame s reaches in
+pub byte_offends : (opening : Option ℕ) (before : List ℕ) (byte : ℕ) (s : Reader) → reach true (at_first opening) before ≡ Some s → phase_after s.phase byte ≡ None → BeginsForm (before ++ byte ∷ []) → ⊥
+byte_offends opening before byte s reaches stuck begins =
+    let form = same_phase before (phase.First 0) (at_first_frame opening) (at_first_frame opening) s reaches in
     let r : Reader = record { phase = s.phase; position = form.at } in
-    let refused = replay_refused false before (byte ∷ begins.more) at_first r 0 form.reaches
+    let refused = replay_refused false before (byte ∷ begins.more) (at_first opening) r 0 form.reaches
     (λ place. record {
       refusal = record { place = place - 0; why = why_in s.phase };
       is = ap (λ m. behind place (step_to false r m) (λ x. read_from false (place + 1) x begins.more)) stuck;
     }) in
     let same : (before ++ byte ∷ []) ++ begins.more ≡ before ++ (byte ∷ begins.more) = append_assoc before (byte ∷ []) begins.more in
-    let read = form_reads begins.lines (before ++ (byte ∷ begins.more)) (subst (λ (z : List ℕ). IsForm begins.lines z) same begins.form) in
+    let read = form_reads opening begins.lines (before ++ (byte ∷ begins.more)) (subst (λ (z : List ℕ). IsForm begins.lines z) same begins.form) in
     err_ok (sym refused.is ∙ read.is)
 
 -- and no bytes that end where no file may end are one
-pub end_offends : (bytes : List ℕ) (s : Reader) → reach true at_first bytes ≡ Some s → may_end s.phase ≡ false → (lines : List (Option TimedLine)) → IsForm lines bytes → ⊥
-end_offends bytes s reaches stuck lines form =
-    let at_phase = same_phase bytes (phase.First 0) at_first_frame at_first_frame s reaches in
+pub end_offends : (opening : Option ℕ) (bytes : List ℕ) (s : Reader) → reach true (at_first opening) bytes ≡ Some s → may_end s.phase ≡ false → (lines : List (Option TimedLine)) → IsForm lines bytes → ⊥
+end_offends opening bytes s reaches stuck lines form =
+    let at_phase = same_phase bytes (phase.First 0) (at_first_frame opening) (at_first_frame opening) s reaches in
     let r : Reader = record { phase = s.phase; position = at_phase.at } in
-    let refused = replay_refused false bytes [] at_first r 0 at_phase.reaches
+    let refused = replay_refused false bytes [] (at_first opening) r 0 at_phase.reaches
     (λ place. record {
       refusal = record { place = place; why = why_in s.phase };
       is = ap (λ may. cond {A = Result Pairs Refusal} may (Ok []) (Err (record { place = place; why = why_in s.phase }))) stuck;
     }) in
-    let read = form_reads lines bytes form in
-    err_ok (sym refused.is ∙ (ap (λ z. read_from false 0 at_first z) (append-nil bytes) ∙ read.is))
+    let read = form_reads opening lines bytes form in
+    err_ok (sym refused.is ∙ (ap (λ z. read_from false 0 (at_first opening) z) (append-nil bytes) ∙ read.is))
 
 -- the reason where no line goes on, along bytes
 abbrev pub why_from : Why → List ℕ → Why
@@ -385,11 +385,11 @@ pub time_refused : (p : Position) (text : List ℕ) (t : TimeCode) (o : Offence)
 time_refused p text t o read is = time_refused_by p (frame_of t) o (sym (judged_is true p text t read) ∙ is)
 
 -- a time code's text that offends
-pub time_offends : (bytes before rest : List ℕ) (byte : ℕ) (s : Reader) (o : Offence) (refusal : Refusal) (text : List ℕ) → bytes ≡ before ++ byte ∷ rest
-    → reach true at_first before ≡ Some s → Origin before s → step true s byte ≡ Err o → TextWhole s.phase byte text → judged true s.position text ≡ Err o
-    → refusal ≡ record { place = 0 + length before - o.back; why = o.why } → TimeOffends bytes refusal
-time_offends bytes before rest byte s o refusal text spelled reaches origin stepped w judge refused =
-    let org : TextOrigin before w.at' w.text' s.position = subst (λ (f : Phase). Origin before (record { phase = f; position = s.position })) w.from_is origin in
+pub time_offends : (opening : Option ℕ) (bytes before rest : List ℕ) (byte : ℕ) (s : Reader) (o : Offence) (refusal : Refusal) (text : List ℕ) → bytes ≡ before ++ byte ∷ rest
+    → reach true (at_first opening) before ≡ Some s → Origin opening before s → step true s byte ≡ Err o → TextWhole s.phase byte text → judged true s.position text ≡ Err o
+    → refusal ≡ record { place = 0 + length before - o.back; why = o.why } → TimeOffends opening bytes refusal
+time_offends opening bytes before rest byte s o refusal text spelled reaches origin stepped w judge refused =
+    let org : TextOrigin opening before w.at' w.text' s.position = subst (λ (f : Phase). Origin opening before (record { phase = f; position = s.position })) w.from_is origin in
     let front = take w.at' w.text' in
     let size : length front ≡ w.at' = length-take-le w.at' w.text' (omega (arith, org.size, org.early)) in
     let all_size : length w.text' ≡ w.at' + 1 = omega (arith, org.size, w.ten) in
@@ -415,33 +415,33 @@ time_offends bytes before rest byte s o refusal text spelled reaches origin step
       spelled = spelled ∙ joined rest;
       is_text = read_is_spelled t (front ++ byte ∷ []) read;
       ends = org.ends;
-      begins = begins_file org.start (record { phase = phase.Start; position = s.position }) org.reaches (record { more = []; reads = λ place. record { out = []; is = refl } });
+      begins = begins_file opening org.start (record { phase = phase.Start; position = s.position }) org.reaches (record { more = []; reads = λ place. record { out = []; is = refl } });
       offends = λ b.
-          let refuses = replay_refused true before (byte ∷ b.more) at_first s 0 reaches
+          let refuses = replay_refused true before (byte ∷ b.more) (at_first opening) s 0 reaches
           (λ place. record {
             refusal = record { place = place - o.back; why = o.why };
             is = ap (λ x. behind place x (λ y. read_from true (place + 1) y b.more)) stepped;
           }) in
           let same : (org.start ++ (front ++ byte ∷ [])) ++ b.more ≡ before ++ (byte ∷ b.more) =
           append_assoc org.start (front ++ byte ∷ []) b.more ∙ sym (joined b.more) in
-          err_ok (sym refuses.is ∙ (ap (λ z. read_from true 0 at_first z) (sym same) ∙ file_read b.pairs ((org.start ++ (front ++ byte ∷ [])) ++ b.more) b.file));
+          err_ok (sym refuses.is ∙ (ap (λ z. read_from true 0 (at_first opening) z) (sym same) ∙ file_read opening b.pairs ((org.start ++ (front ++ byte ∷ [])) ++ b.more) b.file));
       place_is = omega (arith, place, back, count, size, w.ten);
       why_is = ap (λ x. x.why) refused ∙ reason;
     }
 
-pub stop_offends : (rest bytes before : List ℕ) (s : Reader) (refusal : Refusal) → bytes ≡ before ++ rest → reach true at_first before ≡ Some s → Origin before s
-    → IsUnoffendingText before → line_why before ≡ why_in s.phase → Stops s rest (0 + length before) refusal → IsFirstOffence bytes refusal
-stop_offends [] bytes before s refusal spelled reaches origin good reason stops =
+pub stop_offends : (opening : Option ℕ) (rest bytes before : List ℕ) (s : Reader) (refusal : Refusal) → bytes ≡ before ++ rest → reach true (at_first opening) before ≡ Some s → Origin opening before s
+    → IsUnoffendingText opening before → line_why before ≡ why_in s.phase → Stops s rest (0 + length before) refusal → IsFirstOffence opening bytes refusal
+stop_offends opening [] bytes before s refusal spelled reaches origin good reason stops =
     let same : bytes ≡ before = spelled ∙ append-nil before in
     let place : refusal.place ≡ 0 + length before = ap (λ x. x.place) stops.1 in
-    let here : EndsEarly before refusal = record {
+    let here : EndsEarly opening before refusal = record {
       unoffending = good;
-      no_file = end_offends before s reaches stops.0;
+      no_file = end_offends opening before s reaches stops.0;
       place_is = omega (arith, place);
       why_is = ap (λ x. x.why) stops.1 ∙ sym reason;
     } in
-    inr (inl (subst (λ (z : List ℕ). EndsEarly z refusal) (sym same) here))
-stop_offends (byte ∷ rest) bytes before s refusal spelled reaches origin good reason (o, stepped, refused) =
+    inr (inl (subst (λ (z : List ℕ). EndsEarly opening z refusal) (sym same) here))
+stop_offends opening (byte ∷ rest) bytes before s refusal spelled reaches origin good reason (o, stepped, refused) =
     let place : refusal.place ≡ 0 + length before - o.back = ap (λ x. x.place) refused in
     ⊎_elim
     (λ stuck.
@@ -452,21 +452,21 @@ stop_offends (byte ∷ rest) bytes before s refusal spelled reaches origin good 
       rest = rest;
       spelled = spelled;
       unoffending = good;
-      offends = byte_offends before byte s reaches stuck.0;
+      offends = byte_offends opening before byte s reaches stuck.0;
       place_is = omega (arith, place, back);
       why_is = ap (λ x. x.why) refused ∙ (ap (λ x. x.why) stuck.1 ∙ sym reason);
     }))
     (λ went.
     let (text, to_is, judge) = refused_text went.0 s.position o went.2 in
     let w = target s.phase byte (phase.Timed text) (went.1 ∙ ap (λ x. Some x) to_is) in
-    inr (inr (time_offends bytes before rest byte s o refusal text spelled reaches origin stepped w judge refused)))
+    inr (inr (time_offends opening bytes before rest byte s o refusal text spelled reaches origin stepped w judge refused)))
     (refused_step s (phase_after s.phase byte) o stepped)
 
-pub first_offence : (bytes : List ℕ) (refusal : Refusal) → read_file bytes ≡ Err refusal → IsFirstOffence bytes refusal
-first_offence bytes refusal is =
-    let sp = split bytes at_first 0 refusal is in
+pub first_offence : (opening : Option ℕ) (bytes : List ℕ) (refusal : Refusal) → read_file opening bytes ≡ Err refusal → IsFirstOffence opening bytes refusal
+first_offence opening bytes refusal is =
+    let sp = split bytes (at_first opening) 0 refusal is in
     let early : 0 < 18 = lit< tt in
-    let origin = origins sp.before [] at_first sp.s refl early sp.reaches in
-    let good = unoffending sp.before sp.s.phase sp.s.position sp.reaches origin in
-    let reason : line_why sp.before ≡ why_in sp.s.phase = line_why_is sp.before ∙ sym (why_reach sp.before at_first sp.s sp.reaches) in
-    stop_offends sp.rest bytes sp.before sp.s refusal sp.is sp.reaches origin good reason sp.stops
+    let origin = origins opening sp.before [] (at_first opening) sp.s refl early sp.reaches in
+    let good = unoffending opening sp.before sp.s.phase sp.s.position sp.reaches origin in
+    let reason : line_why sp.before ≡ why_in sp.s.phase = line_why_is sp.before ∙ sym (why_reach sp.before (at_first opening) sp.s sp.reaches) in
+    stop_offends opening sp.rest bytes sp.before sp.s refusal sp.is sp.reaches origin good reason sp.stops

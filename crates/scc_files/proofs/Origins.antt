@@ -160,23 +160,23 @@ target phase.Between byte to is =
     (chose (nat_eq byte 32) (Some phase.Between) (word_or_end byte (hex_value byte)) to is)
 
 -- an open text follows a line's end
-pub record TextOrigin (before : List ℕ) (at : ℕ) (text : List ℕ) (p : Position) : Type 0 where
+pub record TextOrigin (opening : Option ℕ) (before : List ℕ) (at : ℕ) (text : List ℕ) (p : Position) : Type 0 where
   pub start : List ℕ
   pub is : before ≡ start ++ take at text
   pub ends : EndsLine start
-  pub reaches : reach true at_first start ≡ Some (record { phase = phase.Start; position = p })
+  pub reaches : reach true (at_first opening) start ≡ Some (record { phase = phase.Start; position = p })
   pub early : at < 11
   pub size : length text ≡ 11
   pub fit : AllFit 0 (take at text)
 
-abbrev pub OriginOf : List ℕ → Phase → Position → Type 0
-OriginOf before (phase.First at) p = at < 18
-OriginOf before phase.Start p = EndsLine before
-OriginOf before (phase.Text at text) p = TextOrigin before at text p
-OriginOf before _ p = ⊤
+abbrev pub OriginOf : Option ℕ → List ℕ → Phase → Position → Type 0
+OriginOf opening before (phase.First at) p = at < 18
+OriginOf opening before phase.Start p = EndsLine before
+OriginOf opening before (phase.Text at text) p = TextOrigin opening before at text p
+OriginOf opening before _ p = ⊤
 
-abbrev pub Origin : List ℕ → Reader → Type 0
-Origin before r = OriginOf before r.phase r.position
+abbrev pub Origin : Option ℕ → List ℕ → Reader → Type 0
+Origin opening before r = OriginOf opening before r.phase r.position
 
 pub all_fit_more : (at : ℕ) (front : List ℕ) (byte : ℕ) → AllFit at front → fits (at + length front) byte ≡ true → AllFit at (front ++ byte ∷ [])
 all_fit_more at [] byte all fit =
@@ -193,12 +193,12 @@ pub later_first : (at : ℕ) → at < 18 → nat_eq at 17 ≡ false → at + 1 <
 later_first at early other = grind (arith, common_steps)
 
 -- a step keeps how phases were reached
-module _ (before : List ℕ) (byte : ℕ) (p : Position) where
-  pub text_start : (from : Phase) (at : ℕ) (text : List ℕ) → reach true at_first before ≡ Some (record { phase = from; position = p }) → OriginOf before from p
-      → TextStart from byte at text → TextOrigin (before ++ byte ∷ []) at text p
+module _ (opening : Option ℕ) (before : List ℕ) (byte : ℕ) (p : Position) where
+  pub text_start : (from : Phase) (at : ℕ) (text : List ℕ) → reach true (at_first opening) before ≡ Some (record { phase = from; position = p }) → OriginOf opening before from p
+      → TextStart from byte at text → TextOrigin opening (before ++ byte ∷ []) at text p
   text_start from at text reaches origin t =
-      let here = subst (λ (f : Phase). OriginOf before f p) t.from_is origin in
-      let whole : TextOrigin (before ++ byte ∷ []) 1 (first_digit byte) p = record {
+      let here = subst (λ (f : Phase). OriginOf opening before f p) t.from_is origin in
+      let whole : TextOrigin opening (before ++ byte ∷ []) 1 (first_digit byte) p = record {
         start = before;
         is = refl;
         ends = here;
@@ -207,17 +207,17 @@ module _ (before : List ℕ) (byte : ℕ) (p : Position) where
         size = refl;
         fit = (t.fit, tt);
       } in
-      subst (λ (n : ℕ). TextOrigin (before ++ byte ∷ []) n text p) (sym t.at_is)
-      (subst (λ (x : List ℕ). TextOrigin (before ++ byte ∷ []) 1 x p) (sym t.text_is) whole)
+      subst (λ (n : ℕ). TextOrigin opening (before ++ byte ∷ []) n text p) (sym t.at_is)
+      (subst (λ (x : List ℕ). TextOrigin opening (before ++ byte ∷ []) 1 x p) (sym t.text_is) whole)
 
-  pub text_more : (from : Phase) (at : ℕ) (text : List ℕ) → OriginOf before from p → TextMore from byte at text → TextOrigin (before ++ byte ∷ []) at text p
+  pub text_more : (from : Phase) (at : ℕ) (text : List ℕ) → OriginOf opening before from p → TextMore from byte at text → TextOrigin opening (before ++ byte ∷ []) at text p
   text_more from at text origin t =
-      let o = subst (λ (f : Phase). OriginOf before f p) t.from_is origin in
+      let o = subst (λ (f : Phase). OriginOf opening before f p) t.from_is origin in
       let front = front_more t.at' t.text' byte o.size o.early in
       let count : length (take t.at' t.text') ≡ t.at' = length-take-le t.at' t.text' (omega (arith, o.size, o.early)) in
       let counted : t.at' ≡ 0 + length (take t.at' t.text') = omega (arith, count) in
       let later : t.at' + 1 < 11 = later_text t.at' o.early t.early in
-      let whole : TextOrigin (before ++ byte ∷ []) (t.at' + 1) (slice_set t.text' t.at' byte) p = record {
+      let whole : TextOrigin opening (before ++ byte ∷ []) (t.at' + 1) (slice_set t.text' t.at' byte) p = record {
         start = o.start;
         is = ap (λ z. z ++ (byte ∷ [])) o.is ∙ (append_assoc o.start (take t.at' t.text') (byte ∷ []) ∙ ap (λ z. o.start ++ z) (sym front));
         ends = o.ends;
@@ -227,35 +227,35 @@ module _ (before : List ℕ) (byte : ℕ) (p : Position) where
         fit = subst (λ (z : List ℕ). AllFit 0 z) (sym front)
             (all_fit_more 0 (take t.at' t.text') byte o.fit (subst (λ (n : ℕ). fits n byte ≡ true) counted t.fit));
       } in
-      subst (λ (n : ℕ). TextOrigin (before ++ byte ∷ []) n text p) (sym t.at_is)
-      (subst (λ (x : List ℕ). TextOrigin (before ++ byte ∷ []) (t.at' + 1) x p) (sym t.text_is) whole)
+      subst (λ (n : ℕ). TextOrigin opening (before ++ byte ∷ []) n text p) (sym t.at_is)
+      (subst (λ (x : List ℕ). TextOrigin opening (before ++ byte ∷ []) (t.at' + 1) x p) (sym t.text_is) whole)
 
-  pub first_more : (from : Phase) (at : ℕ) → OriginOf before from p → FirstMore from byte at → at < 18
+  pub first_more : (from : Phase) (at : ℕ) → OriginOf opening before from p → FirstMore from byte at → at < 18
   first_more from at origin f =
-      let early = subst (λ (x : Phase). OriginOf before x p) f.from_is origin in
+      let early = subst (λ (x : Phase). OriginOf opening before x p) f.from_is origin in
       subst (λ (n : ℕ). n < 18) (sym f.at_is) (later_first f.at' early f.early)
 
-  pub step_origin : (to from : Phase) (x : Stepped) → reach true at_first before ≡ Some (record { phase = from; position = p }) → OriginOf before from p → Target from byte to
-      → reached true p to ≡ Ok x → Origin (before ++ byte ∷ []) x.0
-  step_origin (phase.First at) from x reaches origin t is = subst (λ (y : Stepped). Origin (before ++ byte ∷ []) y.0) (ok_is is) (first_more from at origin t)
-  step_origin phase.FirstSpaces from x reaches origin t is = subst (λ (y : Stepped). Origin (before ++ byte ∷ []) y.0) (ok_is is) tt
-  step_origin phase.FirstEnd from x reaches origin t is = subst (λ (y : Stepped). Origin (before ++ byte ∷ []) y.0) (ok_is is) tt
+  pub step_origin : (to from : Phase) (x : Stepped) → reach true (at_first opening) before ≡ Some (record { phase = from; position = p }) → OriginOf opening before from p → Target from byte to
+      → reached true p to ≡ Ok x → Origin opening (before ++ byte ∷ []) x.0
+  step_origin (phase.First at) from x reaches origin t is = subst (λ (y : Stepped). Origin opening (before ++ byte ∷ []) y.0) (ok_is is) (first_more from at origin t)
+  step_origin phase.FirstSpaces from x reaches origin t is = subst (λ (y : Stepped). Origin opening (before ++ byte ∷ []) y.0) (ok_is is) tt
+  step_origin phase.FirstEnd from x reaches origin t is = subst (λ (y : Stepped). Origin opening (before ++ byte ∷ []) y.0) (ok_is is) tt
   step_origin phase.Start from x reaches origin t is =
-      subst (λ (y : Stepped). Origin (before ++ byte ∷ []) y.0) (ok_is is) (before, ap (λ b. before ++ b ∷ []) t)
-  step_origin phase.Blank from x reaches origin t is = subst (λ (y : Stepped). Origin (before ++ byte ∷ []) y.0) (ok_is is) tt
-  step_origin phase.End from x reaches origin t is = subst (λ (y : Stepped). Origin (before ++ byte ∷ []) y.0) (ok_is is) tt
+      subst (λ (y : Stepped). Origin opening (before ++ byte ∷ []) y.0) (ok_is is) (before, ap (λ b. before ++ b ∷ []) t)
+  step_origin phase.Blank from x reaches origin t is = subst (λ (y : Stepped). Origin opening (before ++ byte ∷ []) y.0) (ok_is is) tt
+  step_origin phase.End from x reaches origin t is = subst (λ (y : Stepped). Origin opening (before ++ byte ∷ []) y.0) (ok_is is) tt
   step_origin (phase.Text at text) from x reaches origin t is =
-      subst (λ (y : Stepped). Origin (before ++ byte ∷ []) y.0) (ok_is is)
+      subst (λ (y : Stepped). Origin opening (before ++ byte ∷ []) y.0) (ok_is is)
       (⊎_elim (λ s. text_start from at text reaches origin s) (λ m. text_more from at text origin m) t)
   step_origin (phase.Timed text) from x reaches origin t is =
       let s = text_step (phase.Timed text) (judged true p text) x is in
-      subst (λ (y : Stepped). Origin (before ++ byte ∷ []) y.0) s.2 tt
-  step_origin phase.Gap from x reaches origin t is = subst (λ (y : Stepped). Origin (before ++ byte ∷ []) y.0) (ok_is is) tt
-  step_origin (phase.One value) from x reaches origin t is = subst (λ (y : Stepped). Origin (before ++ byte ∷ []) y.0) (ok_is is) tt
-  step_origin (phase.Two first) from x reaches origin t is = subst (λ (y : Stepped). Origin (before ++ byte ∷ []) y.0) (ok_is is) tt
-  step_origin (phase.Three first value) from x reaches origin t is = subst (λ (y : Stepped). Origin (before ++ byte ∷ []) y.0) (ok_is is) tt
-  step_origin (phase.Whole pair) from x reaches origin t is = subst (λ (y : Stepped). Origin (before ++ byte ∷ []) y.0) (ok_is is) tt
-  step_origin phase.Between from x reaches origin t is = subst (λ (y : Stepped). Origin (before ++ byte ∷ []) y.0) (ok_is is) tt
+      subst (λ (y : Stepped). Origin opening (before ++ byte ∷ []) y.0) s.2 tt
+  step_origin phase.Gap from x reaches origin t is = subst (λ (y : Stepped). Origin opening (before ++ byte ∷ []) y.0) (ok_is is) tt
+  step_origin (phase.One value) from x reaches origin t is = subst (λ (y : Stepped). Origin opening (before ++ byte ∷ []) y.0) (ok_is is) tt
+  step_origin (phase.Two first) from x reaches origin t is = subst (λ (y : Stepped). Origin opening (before ++ byte ∷ []) y.0) (ok_is is) tt
+  step_origin (phase.Three first value) from x reaches origin t is = subst (λ (y : Stepped). Origin opening (before ++ byte ∷ []) y.0) (ok_is is) tt
+  step_origin (phase.Whole pair) from x reaches origin t is = subst (λ (y : Stepped). Origin opening (before ++ byte ∷ []) y.0) (ok_is is) tt
+  step_origin phase.Between from x reaches origin t is = subst (λ (y : Stepped). Origin opening (before ++ byte ∷ []) y.0) (ok_is is) tt
 
 -- bytes after bytes that are taken
 pub reach_append : (j : Bool) (xs ys : List ℕ) (r s : Reader) → reach j r xs ≡ Some s → reach j r (xs ++ ys) ≡ reach j s ys
@@ -266,18 +266,18 @@ reach_append j (byte ∷ xs) ys r s is =
     elim [ Ok stepped ↦ λ h. reach_append j xs ys stepped.0 s h | Err offence ↦ λ h. absurd (none_reader h) ] in
     cases (step j r byte) is
 
-pub origins : (bytes before : List ℕ) (r s : Reader) → reach true at_first before ≡ Some r → Origin before r → reach true r bytes ≡ Some s → Origin (before ++ bytes) s
-origins [] before r s reaches origin is =
-    subst (λ (z : List ℕ). Origin z s) (sym (append-nil before)) (subst (λ (x : Reader). Origin before x) (some_reader is) origin)
-origins (byte ∷ bytes) before r s reaches origin is =
-    let cases : (x : Result Stepped Offence) → step true r byte ≡ x → option_and_then (λ s. reach true s bytes) (reader_of x) ≡ Some s → Origin (before ++ (byte ∷ bytes)) s =
+pub origins : (opening : Option ℕ) (bytes before : List ℕ) (r s : Reader) → reach true (at_first opening) before ≡ Some r → Origin opening before r → reach true r bytes ≡ Some s → Origin opening (before ++ bytes) s
+origins opening [] before r s reaches origin is =
+    subst (λ (z : List ℕ). Origin opening z s) (sym (append-nil before)) (subst (λ (x : Reader). Origin opening before x) (some_reader is) origin)
+origins opening (byte ∷ bytes) before r s reaches origin is =
+    let cases : (x : Result Stepped Offence) → step true r byte ≡ x → option_and_then (λ s. reach true s bytes) (reader_of x) ≡ Some s → Origin opening (before ++ (byte ∷ bytes)) s =
     elim [
       | Ok stepped ↦ λ e h.
           let (to, moves, reached_is) = moved_step true r (phase_after r.phase byte) stepped e in
-          let next = step_origin before byte r.position to r.phase stepped reaches origin (target r.phase byte to moves) reached_is in
-          let reaches' : reach true at_first (before ++ byte ∷ []) ≡ Some stepped.0 =
-          reach_append true before (byte ∷ []) at_first r reaches ∙ ap (λ x. option_and_then (λ s. Some s) (reader_of x)) e in
-          subst (λ (z : List ℕ). Origin z s) (append_assoc before (byte ∷ []) bytes) (origins bytes (before ++ byte ∷ []) stepped.0 s reaches' next h)
+          let next = step_origin opening before byte r.position to r.phase stepped reaches origin (target r.phase byte to moves) reached_is in
+          let reaches' : reach true (at_first opening) (before ++ byte ∷ []) ≡ Some stepped.0 =
+          reach_append true before (byte ∷ []) (at_first opening) r reaches ∙ ap (λ x. option_and_then (λ s. Some s) (reader_of x)) e in
+          subst (λ (z : List ℕ). Origin opening z s) (append_assoc before (byte ∷ []) bytes) (origins opening bytes (before ++ byte ∷ []) stepped.0 s reaches' next h)
       | Err offence ↦ λ e h. absurd (none_reader h)
     ] in
     cases (step true r byte) refl is

@@ -29,8 +29,8 @@ placed_rise (Some line ∷ lines) start next =
     subst (λ n. AreRising n more) count (placed_rise lines (Some first) (frame + 1 + length line.more)) in
     rising_lower (one_a_frame frame (line.first ∷ line.more) ++ more) frame next (omega arith) (stretch_rises (line.first ∷ line.more) frame more rest)
 
-pub file_rises : (pairs : List (ℕ × Pair)) (bytes : List ℕ) → IsSccFile pairs bytes → AreRising 0 pairs
-file_rises pairs bytes file = subst (AreRising 0) (sym file.placed) (placed_rise file.lines None 0)
+pub file_rises : (opening : Option ℕ) (pairs : List (ℕ × Pair)) (bytes : List ℕ) → IsSccFile opening pairs bytes → AreRising 0 pairs
+file_rises opening pairs bytes file = subst (AreRising 0) (sym file.placed) (placed_rise file.lines opening 0)
 
 pub hex_small : (byte value : ℕ) → hex_value byte ≡ Some value → value < 16
 hex_small byte value is = grind (arith, common_steps)
@@ -60,5 +60,5 @@ lines_bytes (Some line ∷ lines) bytes start next (end, spelled, rest, is_end, 
     let (a, b) = word_bytes line.first is_line.word is_line.is_word in
     (a, b, words_bytes line.more is_line.words (frame + 1) _ is_line.are_words (lines_bytes lines rest (Some first) (frame + 1 + length line.more) are))
 
-pub file_bytes : (pairs : List (ℕ × Pair)) (bytes : List ℕ) → IsSccFile pairs bytes → AreBytes pairs
-file_bytes pairs bytes file = subst AreBytes (sym file.placed) (lines_bytes file.lines file.form.rest None 0 file.form.are_lines)
+pub file_bytes : (opening : Option ℕ) (pairs : List (ℕ × Pair)) (bytes : List ℕ) → IsSccFile opening pairs bytes → AreBytes pairs
+file_bytes opening pairs bytes file = subst AreBytes (sym file.placed) (lines_bytes file.lines file.form.rest opening 0 file.form.are_lines)

@@ -1,5 +1,5 @@
 -- What is written is an SCC file, of the pairs that aren't null.
-use Rattle.std.proofs.Common.{◌≡◌, ℕ, ◌+◌, ◌-◌, ◌*◌, ◌/◌, ◌%◌, ◌<◌, ◌≤◌, Bool, true, false, cond, not, nat_eq, nat_le, max, refl, sym, ◌∙◌, ap, subst, arith, List, [], ◌∷◌, ◌++◌, length, Option, Some, None, Ok, inl}
+use Rattle.std.proofs.Common.{◌≡◌, ℕ, ◌+◌, ◌-◌, ◌*◌, ◌/◌, ◌%◌, ◌<◌, ◌≤◌, Bool, true, false, cond, not, nat_eq, nat_le, max, refl, sym, ◌∙◌, ap, subst, arith, List, [], ◌∷◌, ◌++◌, length, Option, Some, None, unwrap_or, Ok, inl}
 use Rattle.std.specs.Prelude.{◌&&◌}
 use Rattle.std.proofs.lemmas.Bool.{eqb-true}
 use Rattle.std.proofs.lemmas.Grind.{common_steps}
@@ -208,16 +208,28 @@ within (placed ∷ pairs) start first behind drop_frame low (high, a_fits, b_fit
     ] in
     by_null (is_null pair) refl
 
+-- pairs counted from 0 stand as they are
+pub counted_zero : (pairs : List (ℕ × Pair)) → pairs ≡ counted_from 0 pairs
+counted_zero [] = refl
+counted_zero (placed ∷ pairs) =
+    let same : placed.0 ≡ placed.0 - 0 = omega arith in
+    ap (λ z. placed ∷ z) (counted_zero pairs) ∙ ap (λ n. (n, placed.1) ∷ counted_from 0 pairs) same
+
 -- before any stretch
-pub record Before (start : ℕ) (text : List ℕ) (left : List (ℕ × Pair)) : Type 0 where
+pub record Before (opening : Option ℕ) (text : List ℕ) (out : List (ℕ × Pair)) : Type 0 where
   pub lines : List (Option TimedLine)
   pub are_lines : AreLines lines (10 ∷ 10 ∷ text)
-  pub timed : AreTimed 0 lines
-  pub placed : counted left ≡ placed_from None 0 lines
+  pub timed : AreTimed (unwrap_or opening 0) lines
+  pub placed : out ≡ placed_from opening 0 lines
+
+-- with frame 0 at the first line, and at its own frame of the day
+pub record Befores (start : ℕ) (text : List ℕ) (left : List (ℕ × Pair)) : Type 0 where
+  pub by_line : Before None text (counted left)
+  pub by_start : Before (Some start) text left
 
 pub first_line : (start frame : ℕ) (drop_frame : Bool) (pair : Pair) (text : List ℕ) (left : List (ℕ × Pair))
     → pair.a < 256 → pair.b < 256 → start + frame < day_frames drop_frame → Within start frame (frame + 1) text left
-    → Before start (text_of (time_at (start + frame) drop_frame) ++ (9 ∷ (pair_word pair ++ text))) ((frame, pair) ∷ left)
+    → Before None (text_of (time_at (start + frame) drop_frame) ++ (9 ∷ (pair_word pair ++ text))) (counted ((frame, pair) ∷ left))
 first_line start frame drop_frame pair text left a_fits b_fits day w =
     let t = time_at (start + frame) drop_frame in
     let named : frame_of t ≡ Ok (start + frame) = time_named (start + frame) drop_frame day in
@@ -246,13 +258,36 @@ first_line start frame drop_frame pair text left a_fits b_fits day w =
           ∙ ap (λ f. one_a_frame (max (f - f) 0) (pair ∷ w.ps) ++ placed_from (Some f) (max (f - f) 0 + 1 + length w.ps) w.lines) (sym number));
     }
 
+pub first_from_start : (start frame : ℕ) (drop_frame : Bool) (pair : Pair) (text : List ℕ) (left : List (ℕ × Pair))
+    → pair.a < 256 → pair.b < 256 → start + frame < day_frames drop_frame → Within start 0 (frame + 1) text left
+    → Before (Some start) (text_of (time_at (start + frame) drop_frame) ++ (9 ∷ (pair_word pair ++ text))) ((frame, pair) ∷ left)
+unfolding next_line
+first_from_start start frame drop_frame pair text left a_fits b_fits day w =
+    let t = time_at (start + frame) drop_frame in
+    let line = next_line start 0 0 frame drop_frame pair text left (omega arith) (omega arith) a_fits b_fits day w in
+    let here : start + 0 ≡ start = omega arith in
+    record {
+      lines = line.lines;
+      are_lines = subst (AreLines line.lines) (sym line.is) line.are_lines;
+      timed = line.timed start (omega arith);
+      placed = counted_zero ((frame, pair) ∷ left) ∙ (line.placed ∙ ap (λ n. placed_from (Some n) 0 line.lines) here);
+    }
+
 pub before : (pairs : List (ℕ × Pair)) (start low : ℕ) (drop_frame : Bool) → AreWritable start drop_frame low pairs
-    → Before start (text_from (record { start = start; drop_frame = drop_frame; behind = None }) pairs) (pairs_not_null pairs)
+    → Befores start (text_from (record { start = start; drop_frame = drop_frame; behind = None }) pairs) (pairs_not_null pairs)
 before [] start low drop_frame are = record {
-  lines = None ∷ None ∷ [];
-  are_lines = (10 ∷ [], [], 10 ∷ [], inl refl, tt, (10 ∷ [], [], [], inl refl, tt, refl, refl), refl);
-  timed = tt;
-  placed = refl;
+  by_line = record {
+    lines = None ∷ None ∷ [];
+    are_lines = (10 ∷ [], [], 10 ∷ [], inl refl, tt, (10 ∷ [], [], [], inl refl, tt, refl, refl), refl);
+    timed = tt;
+    placed = refl;
+  };
+  by_start = record {
+    lines = None ∷ None ∷ [];
+    are_lines = (10 ∷ [], [], 10 ∷ [], inl refl, tt, (10 ∷ [], [], [], inl refl, tt, refl, refl), refl);
+    timed = tt;
+    placed = refl;
+  };
 }
 before (placed ∷ pairs) start low drop_frame (high, a_fits, b_fits, day, rest) =
     let frame = placed.0 in
@@ -260,28 +295,38 @@ before (placed ∷ pairs) start low drop_frame (high, a_fits, b_fits, day, rest)
     let w : Standing = record { start = start; drop_frame = drop_frame; behind = None } in
     let v : Standing = record { start = start; drop_frame = drop_frame; behind = Some (frame + 1) } in
     let by_null : (n : Bool) → is_null pair ≡ n
-    → Before start (cond n [] (text_of (time_at (start + frame) drop_frame) ++ (9 ∷ pair_word pair)) ++ text_from (cond n w v) pairs)
+    → Befores start (cond n [] (text_of (time_at (start + frame) drop_frame) ++ (9 ∷ pair_word pair)) ++ text_from (cond n w v) pairs)
     (cond n (pairs_not_null pairs) ((frame, pair) ∷ pairs_not_null pairs)) =
     elim [
       | true ↦ λ n. before pairs start (frame + 1) drop_frame rest
       | false ↦ λ n.
-          first_line start frame drop_frame pair (text_from v pairs) (pairs_not_null pairs) a_fits b_fits
-          (of_day (is_null pair) (day_frames drop_frame) (start + frame) n day) (within pairs start frame (frame + 1) drop_frame (omega arith) rest)
+          let shown = of_day (is_null pair) (day_frames drop_frame) (start + frame) n day in
+          record {
+            by_line = first_line start frame drop_frame pair (text_from v pairs) (pairs_not_null pairs) a_fits b_fits shown
+                (within pairs start frame (frame + 1) drop_frame (omega arith) rest);
+            by_start = first_from_start start frame drop_frame pair (text_from v pairs) (pairs_not_null pairs) a_fits b_fits shown
+                (within pairs start 0 (frame + 1) drop_frame (omega arith) rest);
+          }
     ] in
     by_null (is_null pair) refl
 
-text_is_file : (pairs : List (ℕ × Pair)) (start : ℕ) (drop_frame : Bool) → AreWritable start drop_frame 0 pairs
-    → IsSccFile (counted (pairs_not_null pairs)) (head_text ++ text_from (standing_first start drop_frame) pairs)
-text_is_file pairs start drop_frame are =
-    let b = before pairs start 0 drop_frame are in
-    record {
+pub text_is_file : (opening : Option ℕ) (out pairs : List (ℕ × Pair)) (start : ℕ) (drop_frame : Bool)
+    → Before opening (text_from (standing_first start drop_frame) pairs) out → IsSccFile opening out (written_file start drop_frame pairs)
+text_is_file opening out pairs start drop_frame b =
+    subst (IsSccFile opening out) (text_written start drop_frame pairs) (record {
       lines = b.lines;
       form = record { spaces = []; rest = 10 ∷ 10 ∷ text_from (standing_first start drop_frame) pairs; are_spaces = tt; are_lines = b.are_lines; spelled = refl };
       timed = b.timed;
       placed = b.placed;
-    }
+    })
 
 pub written_is_file : (pairs : List (ℕ × Pair)) (start : ℕ) (drop_frame : Bool) → AreWritable start drop_frame 0 pairs
-    → IsSccFile (counted (pairs_not_null pairs)) (written_file start drop_frame pairs)
+    → IsSccFile None (counted (pairs_not_null pairs)) (written_file start drop_frame pairs)
 written_is_file pairs start drop_frame are =
-    subst (IsSccFile (counted (pairs_not_null pairs))) (text_written start drop_frame pairs) (text_is_file pairs start drop_frame are)
+    text_is_file None (counted (pairs_not_null pairs)) pairs start drop_frame (before pairs start 0 drop_frame are).by_line
+
+-- each at its own frame
+pub written_is_placed : (pairs : List (ℕ × Pair)) (start : ℕ) (drop_frame : Bool) → AreWritable start drop_frame 0 pairs
+    → IsSccFile (Some start) (pairs_not_null pairs) (written_file start drop_frame pairs)
+written_is_placed pairs start drop_frame are =
+    text_is_file (Some start) (pairs_not_null pairs) pairs start drop_frame (before pairs start 0 drop_frame are).by_start

@@ -690,14 +690,14 @@ sound j (byte ∷ bytes) place from p out is =
     byte_more from j byte p bytes out to moves (reached_sound to j place p bytes out (sound j bytes (place + 1)) read)
 
 -- a whole file is one in form, of these lines
-pub record IsReadForm (j : Bool) (bytes : List ℕ) (out : Pairs) : Type 0 where
+pub record IsReadForm (opening : Option ℕ) (j : Bool) (bytes : List ℕ) (out : Pairs) : Type 0 where
   pub lines : List (Option TimedLine)
   pub form : IsForm lines bytes
-  pub placed : Placed j at_first_frame lines out
+  pub placed : Placed j (at_first_frame opening) lines out
 
-pub form_sound : (j : Bool) (place : ℕ) (bytes : List ℕ) (out : Pairs) → read_from j place at_first bytes ≡ Ok out → IsReadForm j bytes out
-form_sound j place bytes out is =
-    let first = sound j bytes place (phase.First 0) at_first_frame out is (lit< tt) in
+pub form_sound : (opening : Option ℕ) (j : Bool) (place : ℕ) (bytes : List ℕ) (out : Pairs) → read_from j place (at_first opening) bytes ≡ Ok out → IsReadForm opening j bytes out
+form_sound opening j place bytes out is =
+    let first = sound j bytes place (phase.First 0) (at_first_frame opening) out is (lit< tt) in
     let spaces = first.behind in
     record {
       lines = spaces.behind.lines;

@@ -44,5 +44,5 @@ stays (byte ∷ bytes) more r place refusal is early =
     cases (step true r byte) refl is
 
 -- and refused bytes are none
-pub none_is : (bytes : List ℕ) (refusal : Refusal) (pairs : List (ℕ × Pair)) → read_file bytes ≡ Err refusal → IsSccFile pairs bytes → ⊥
-none_is bytes refusal pairs is file = err_ok (sym is ∙ file_read pairs bytes file)
+pub none_is : (opening : Option ℕ) (bytes : List ℕ) (refusal : Refusal) (pairs : List (ℕ × Pair)) → read_file opening bytes ≡ Err refusal → IsSccFile opening pairs bytes → ⊥
+none_is opening bytes refusal pairs is file = err_ok (sym is ∙ file_read opening pairs bytes file)

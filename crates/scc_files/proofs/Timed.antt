@@ -59,8 +59,8 @@ placed_timed (Some line ∷ lines) p out (s, more, judge, placed, made) =
     )
 
 -- what is read is an SCC file
-pub file_sound : (pairs : List (ℕ × Pair)) (bytes : List ℕ) → read_file bytes ≡ Ok pairs → IsSccFile pairs bytes
-file_sound pairs bytes is =
-    let read = form_sound true 0 bytes pairs is in
-    let (timed, placed) = placed_timed read.lines at_first_frame pairs read.placed in
+pub file_sound : (opening : Option ℕ) (pairs : List (ℕ × Pair)) (bytes : List ℕ) → read_file opening bytes ≡ Ok pairs → IsSccFile opening pairs bytes
+file_sound opening pairs bytes is =
+    let read = form_sound opening true 0 bytes pairs is in
+    let (timed, placed) = placed_timed read.lines (at_first_frame opening) pairs read.placed in
     record { lines = read.lines; form = read.form; timed = timed; placed = placed }

@@ -41,13 +41,13 @@ pub form_front : (a b : List ℕ) → BeginsForm (a ++ b) → BeginsForm a
 form_front a b begins =
     record { more = b ++ begins.more; lines = begins.lines; form = subst (IsForm begins.lines) (append_assoc a b begins.more) begins.form }
 
-pub file_front : (a b : List ℕ) → BeginsFile (a ++ b) → BeginsFile a
-file_front a b begins =
-    record { more = b ++ begins.more; pairs = begins.pairs; file = subst (IsSccFile begins.pairs) (append_assoc a b begins.more) begins.file }
+pub file_front : (opening : Option ℕ) (a b : List ℕ) → BeginsFile opening (a ++ b) → BeginsFile opening a
+file_front opening a b begins =
+    record { more = b ++ begins.more; pairs = begins.pairs; file = subst (IsSccFile opening begins.pairs) (append_assoc a b begins.more) begins.file }
 
 -- no form begins with bytes of which one offends
-pub byte_early : (bytes ys b : List ℕ) (refusal : Refusal) (o : ByteOffends bytes refusal) → bytes ≡ ys ++ b → BeginsForm ys → length o.before < length ys → ⊥
-byte_early bytes ys b refusal o is form early =
+pub byte_early : (opening : Option ℕ) (bytes ys b : List ℕ) (refusal : Refusal) (o : ByteOffends opening bytes refusal) → bytes ≡ ys ++ b → BeginsForm ys → length o.before < length ys → ⊥
+byte_early opening bytes ys b refusal o is form early =
     let (mid, ys_is, rest_is) = cut o.before (o.byte ∷ o.rest) ys b (sym o.spelled ∙ is) (omega arith) in
     let cases : (mid : List ℕ) → ys ≡ o.before ++ mid → o.byte ∷ o.rest ≡ mid ++ b → ⊥ =
     elim [
@@ -79,17 +79,17 @@ pub eleven_long : (t : TimeCode) (text : List ℕ) → IsTimeText t text → len
 eleven_long t text is = ap length is.spelled
 
 -- no file begins with a time code's text that offends
-pub time_begins : (bytes ys b : List ℕ) (refusal : Refusal) (o : TimeOffends bytes refusal) → bytes ≡ ys ++ b → BeginsFile ys → length o.start + 11 ≤ length ys → ⊥
-time_begins bytes ys b refusal o is begins late =
+pub time_begins : (opening : Option ℕ) (bytes ys b : List ℕ) (refusal : Refusal) (o : TimeOffends opening bytes refusal) → bytes ≡ ys ++ b → BeginsFile opening ys → length o.start + 11 ≤ length ys → ⊥
+time_begins opening bytes ys b refusal o is begins late =
     let size : length (o.start ++ o.text) ≡ length o.start + 11 =
     length-append o.start o.text ∙ ap (λ n. length o.start + n) (eleven_long o.time o.text o.is_text) in
     let (mid, ys_is, rest_is) = cut (o.start ++ o.text) o.rest ys b (append_assoc o.start o.text o.rest ∙ (sym o.spelled ∙ is)) (omega (arith, size)) in
-    o.offends (file_front (o.start ++ o.text) mid (subst BeginsFile ys_is begins))
+    o.offends (file_front opening (o.start ++ o.text) mid (subst (BeginsFile opening) ys_is begins))
 
 -- nor with bytes that end a line within it
-pub line_early : (bytes ys b : List ℕ) (refusal : Refusal) (o : TimeOffends bytes refusal) → bytes ≡ ys ++ b → EndsLine ys → length o.start < length ys
+pub line_early : (opening : Option ℕ) (bytes ys b : List ℕ) (refusal : Refusal) (o : TimeOffends opening bytes refusal) → bytes ≡ ys ++ b → EndsLine ys → length o.start < length ys
     → length ys < length o.start + 11 → ⊥
-line_early bytes ys b refusal o is ends past early =
+line_early opening bytes ys b refusal o is ends past early =
     let (mid, ys_is, rest_is) = cut o.start (o.text ++ o.rest) ys b (sym o.spelled ∙ is) (omega arith) in
     let (front, lf) = ends in
     let long : length ys ≡ length front + 1 = ap length lf ∙ length-append front (10 ∷ []) in
@@ -105,18 +105,18 @@ pub either : (n m : ℕ) → (n ≤ m) ⊎ (m < n)
 either n m = ⊎_elim (λ less. inr less) (λ more. inl more) (cases_lt m n)
 
 -- bytes past it offend
-pub time_early : (bytes ys b : List ℕ) (refusal : Refusal) (o : TimeOffends bytes refusal) → bytes ≡ ys ++ b → IsUnoffendingText ys → length o.start + 11 ≤ length ys → ⊥
-time_early bytes ys b refusal o is u late =
+pub time_early : (opening : Option ℕ) (bytes ys b : List ℕ) (refusal : Refusal) (o : TimeOffends opening bytes refusal) → bytes ≡ ys ++ b → IsUnoffendingText opening ys → length o.start + 11 ≤ length ys → ⊥
+time_early opening bytes ys b refusal o is u late =
     let joined : bytes ≡ u.start ++ (u.open_text ++ b) = is ∙ (ap (λ z. z ++ b) u.spelled ∙ append_assoc u.start u.open_text b) in
     let size : length ys ≡ length u.start + length u.open_text = ap length u.spelled ∙ length-append u.start u.open_text in
     ⊎_elim
     (λ none.
     let whole : length u.open_text ≡ 0 = ap length none in
-    time_begins bytes u.start (u.open_text ++ b) refusal o joined u.begins (omega (arith, size, whole)))
+    time_begins opening bytes u.start (u.open_text ++ b) refusal o joined u.begins (omega (arith, size, whole)))
     (λ ended.
     ⊎_elim
-    (λ far. time_begins bytes u.start (u.open_text ++ b) refusal o joined u.begins far)
-    (λ near. line_early bytes u.start (u.open_text ++ b) refusal o joined ended.0 (omega (arith, size, ended.1)) near)
+    (λ far. time_begins opening bytes u.start (u.open_text ++ b) refusal o joined u.begins far)
+    (λ near. line_early opening bytes u.start (u.open_text ++ b) refusal o joined ended.0 (omega (arith, size, ended.1)) near)
     (either (length o.start + 11) (length u.start)))
     u.within
 
@@ -197,19 +197,19 @@ lf_starts (phase.Whole pair) to is = some_phase is
 lf_starts phase.Between to is = some_phase is
 
 -- a file that begins with whole lines may continue with any time code's text
-pub line_starts : (start : List ℕ) → BeginsFile start → EndsLine start
-    → (p : Position) × (reach true at_first start ≡ Some (record { phase = phase.Start; position = p }))
-line_starts start begins (front, lf) =
-    let (s, reaches) = reach_front start begins.more at_first 0 begins.pairs (file_read begins.pairs (start ++ begins.more) begins.file) in
-    let (u, given, stepped) = reach_last front 10 at_first s (ap (reach true at_first) (sym lf) ∙ reaches) in
+pub line_starts : (opening : Option ℕ) (start : List ℕ) → BeginsFile opening start → EndsLine start
+    → (p : Position) × (reach true (at_first opening) start ≡ Some (record { phase = phase.Start; position = p }))
+line_starts opening start begins (front, lf) =
+    let (s, reaches) = reach_front start begins.more (at_first opening) 0 begins.pairs (file_read opening begins.pairs (start ++ begins.more) begins.file) in
+    let (u, given, stepped) = reach_last front 10 (at_first opening) s (ap (reach true (at_first opening)) (sym lf) ∙ reaches) in
     let (to, moves, reached_is) = moved_step true u (phase_after u.phase 10) (s, given) stepped in
     let (phase_is, form) = form_step to u.position u.position (s, given) reached_is in
     let at_start : s.phase ≡ phase.Start = phase_is ∙ lf_starts u.phase to moves in
     (s.position, reaches ∙ ap (λ f. Some (record { phase = f; position = s.position })) at_start)
 
-pub form_of_line : (start text : List ℕ) (t : TimeCode) → BeginsFile start → EndsLine start → IsTimeText t text → BeginsForm (start ++ text)
-form_of_line start text t begins ends is_text =
-    let (p, reaches) = line_starts start begins ends in
+pub form_of_line : (opening : Option ℕ) (start text : List ℕ) (t : TimeCode) → BeginsFile opening start → EndsLine start → IsTimeText t text → BeginsForm (start ++ text)
+form_of_line opening start text t begins ends is_text =
+    let (p, reaches) = line_starts opening start begins ends in
     let null : Pair = record { a = 128; b = 128 } in
     let line : TimedLine = record { time = t; first = null; more = [] } in
     let word = 56 ∷ 48 ∷ 56 ∷ 48 ∷ [] in
@@ -228,12 +228,12 @@ form_of_line start text t begins ends is_text =
       are_words = tt;
       spelled = refl;
     } in
-    let form = same_phase start (phase.First 0) at_first_frame at_first_frame (record { phase = phase.Start; position = p }) reaches in
+    let form = same_phase start (phase.First 0) (at_first_frame opening) (at_first_frame opening) (record { phase = phase.Start; position = p }) reaches in
     let q = form.at in
     let line_reads = timed_read false q q line spelled [] [] is_line refl (lines_read false [] (after_pairs q (null ∷ [])) [] [] refl refl) in
-    let all = replay false start (spelled ++ []) at_first (record { phase = phase.Start; position = q }) 0 form.reaches
+    let all = replay false start (spelled ++ []) (at_first opening) (record { phase = phase.Start; position = q }) 0 form.reaches
     (λ place. record { out = one_a_frame q.next (null ∷ []) ++ []; is = line_reads.at place }) in
-    let file = form_sound false 0 (start ++ (spelled ++ [])) all.out all.is in
+    let file = form_sound opening false 0 (start ++ (spelled ++ [])) all.out all.is in
     let same : start ++ (spelled ++ []) ≡ (start ++ text) ++ more =
     ap (λ z. start ++ z) (append-nil spelled) ∙ sym (append_assoc start text more) in
     record { more = more; lines = file.lines; form = subst (IsForm file.lines) same file.form }
@@ -244,8 +244,8 @@ refusal_is one other place why =
     ap (λ p. record { place = p; why = one.why }) place ∙ ap (λ w. record { place = other.place; why = w }) why
 
 -- two bytes
-pub byte_byte : (bytes : List ℕ) (one other : Refusal) → ByteOffends bytes one → ByteOffends bytes other → one ≡ other
-byte_byte bytes one other a b =
+pub byte_byte : (opening : Option ℕ) (bytes : List ℕ) (one other : Refusal) → ByteOffends opening bytes one → ByteOffends opening bytes other → one ≡ other
+byte_byte opening bytes one other a b =
     ⊎_elim
     (λ low.
     ⊎_elim
@@ -255,49 +255,49 @@ byte_byte bytes one other a b =
     let none = no_more_bytes a.before mid b.before is same in
     let front : b.before ≡ a.before = is ∙ (ap (λ z. a.before ++ z) none ∙ append-nil a.before) in
     refusal_is one other (a.place_is ∙ (sym same ∙ sym b.place_is)) (a.why_is ∙ (ap line_why (sym front) ∙ sym b.why_is)))
-    (λ early. absurd (byte_early bytes b.before (b.byte ∷ b.rest) one a b.spelled b.unoffending.form early))
+    (λ early. absurd (byte_early opening bytes b.before (b.byte ∷ b.rest) one a b.spelled b.unoffending.form early))
     (either (length b.before) (length a.before)))
-    (λ early. absurd (byte_early bytes a.before (a.byte ∷ a.rest) other b a.spelled a.unoffending.form early))
+    (λ early. absurd (byte_early opening bytes a.before (a.byte ∷ a.rest) other b a.spelled a.unoffending.form early))
     (either (length a.before) (length b.before))
 
 -- a byte and the end
-pub byte_end : (bytes : List ℕ) (one other : Refusal) → ByteOffends bytes one → EndsEarly bytes other → ⊥
-byte_end bytes one other a b =
+pub byte_end : (opening : Option ℕ) (bytes : List ℕ) (one other : Refusal) → ByteOffends opening bytes one → EndsEarly opening bytes other → ⊥
+byte_end opening bytes one other a b =
     let size : length bytes ≡ length a.before + length (a.byte ∷ a.rest) = ap length a.spelled ∙ length-append a.before (a.byte ∷ a.rest) in
-    byte_early bytes bytes [] one a (sym (append-nil bytes)) b.unoffending.form (omega (arith, size))
+    byte_early opening bytes bytes [] one a (sym (append-nil bytes)) b.unoffending.form (omega (arith, size))
 
 -- a byte and a time code
-pub byte_time : (bytes : List ℕ) (one other : Refusal) → ByteOffends bytes one → TimeOffends bytes other → ⊥
-byte_time bytes one other a b =
+pub byte_time : (opening : Option ℕ) (bytes : List ℕ) (one other : Refusal) → ByteOffends opening bytes one → TimeOffends opening bytes other → ⊥
+byte_time opening bytes one other a b =
     let size : length (b.start ++ b.text) ≡ length b.start + 11 =
     length-append b.start b.text ∙ ap (λ n. length b.start + n) (eleven_long b.time b.text b.is_text) in
     ⊎_elim
-    (λ late. time_early bytes a.before (a.byte ∷ a.rest) other b a.spelled a.unoffending late)
-    (λ early. byte_early bytes (b.start ++ b.text) b.rest one a (b.spelled ∙ sym (append_assoc b.start b.text b.rest))
-    (form_of_line b.start b.text b.time b.begins b.ends b.is_text) (omega (arith, early, size)))
+    (λ late. time_early opening bytes a.before (a.byte ∷ a.rest) other b a.spelled a.unoffending late)
+    (λ early. byte_early opening bytes (b.start ++ b.text) b.rest one a (b.spelled ∙ sym (append_assoc b.start b.text b.rest))
+    (form_of_line opening b.start b.text b.time b.begins b.ends b.is_text) (omega (arith, early, size)))
     (either (length b.start + 11) (length a.before))
 
 -- the end and a time code
-pub end_time : (bytes : List ℕ) (one other : Refusal) → EndsEarly bytes one → TimeOffends bytes other → ⊥
-end_time bytes one other a b =
+pub end_time : (opening : Option ℕ) (bytes : List ℕ) (one other : Refusal) → EndsEarly opening bytes one → TimeOffends opening bytes other → ⊥
+end_time opening bytes one other a b =
     let size : length bytes ≡ length b.start + length (b.text ++ b.rest) = ap length b.spelled ∙ length-append b.start (b.text ++ b.rest) in
     let rest : length (b.text ++ b.rest) ≡ 11 + length b.rest =
     length-append b.text b.rest ∙ ap (λ n. n + length b.rest) (eleven_long b.time b.text b.is_text) in
-    time_early bytes bytes [] other b (sym (append-nil bytes)) a.unoffending (omega (arith, size, rest))
+    time_early opening bytes bytes [] other b (sym (append-nil bytes)) a.unoffending (omega (arith, size, rest))
 
 -- two time codes
-pub later_time : (bytes : List ℕ) (one other : Refusal) (a : TimeOffends bytes one) (b : TimeOffends bytes other) → length a.start < length b.start → ⊥
-later_time bytes one other a b later =
+pub later_time : (opening : Option ℕ) (bytes : List ℕ) (one other : Refusal) (a : TimeOffends opening bytes one) (b : TimeOffends opening bytes other) → length a.start < length b.start → ⊥
+later_time opening bytes one other a b later =
     ⊎_elim
-    (λ far. time_begins bytes b.start (b.text ++ b.rest) one a b.spelled b.begins far)
-    (λ near. line_early bytes b.start (b.text ++ b.rest) one a b.spelled b.ends later near)
+    (λ far. time_begins opening bytes b.start (b.text ++ b.rest) one a b.spelled b.begins far)
+    (λ near. line_early opening bytes b.start (b.text ++ b.rest) one a b.spelled b.ends later near)
     (either (length a.start + 11) (length b.start))
 
 pub same_time : (one other : TimeCode) → Some one ≡ Some other → one ≡ other
 same_time one other is = cc
 
-pub time_time : (bytes : List ℕ) (one other : Refusal) → TimeOffends bytes one → TimeOffends bytes other → one ≡ other
-time_time bytes one other a b =
+pub time_time : (opening : Option ℕ) (bytes : List ℕ) (one other : Refusal) → TimeOffends opening bytes one → TimeOffends opening bytes other → one ≡ other
+time_time opening bytes one other a b =
     ⊎_elim
     (λ low.
     ⊎_elim
@@ -313,30 +313,30 @@ time_time bytes one other a b =
     let text : b.text ≡ a.text = text_is ∙ (ap (λ z. a.text ++ z) nothing ∙ append-nil a.text) in
     let time = same_time a.time b.time (sym (spelled_is_read a.time a.text a.is_text) ∙ (ap time_of_text (sym text) ∙ spelled_is_read b.time b.text b.is_text)) in
     refusal_is one other (a.place_is ∙ (sym same ∙ sym b.place_is)) (a.why_is ∙ (ap time_why time ∙ sym b.why_is)))
-    (λ early. absurd (later_time bytes one other a b early))
+    (λ early. absurd (later_time opening bytes one other a b early))
     (either (length b.start) (length a.start)))
-    (λ early. absurd (later_time bytes other one b a early))
+    (λ early. absurd (later_time opening bytes other one b a early))
     (either (length a.start) (length b.start))
 
 -- one offence
-pub offence_once : (bytes : List ℕ) (one other : Refusal) → IsFirstOffence bytes one → IsFirstOffence bytes other → one ≡ other
-offence_once bytes one other (inl a) (inl b) = byte_byte bytes one other a b
-offence_once bytes one other (inl a) (inr (inl b)) = absurd (byte_end bytes one other a b)
-offence_once bytes one other (inl a) (inr (inr b)) = absurd (byte_time bytes one other a b)
-offence_once bytes one other (inr (inl a)) (inl b) = absurd (byte_end bytes other one b a)
-offence_once bytes one other (inr (inl a)) (inr (inl b)) =
+pub offence_once : (opening : Option ℕ) (bytes : List ℕ) (one other : Refusal) → IsFirstOffence opening bytes one → IsFirstOffence opening bytes other → one ≡ other
+offence_once opening bytes one other (inl a) (inl b) = byte_byte opening bytes one other a b
+offence_once opening bytes one other (inl a) (inr (inl b)) = absurd (byte_end opening bytes one other a b)
+offence_once opening bytes one other (inl a) (inr (inr b)) = absurd (byte_time opening bytes one other a b)
+offence_once opening bytes one other (inr (inl a)) (inl b) = absurd (byte_end opening bytes other one b a)
+offence_once opening bytes one other (inr (inl a)) (inr (inl b)) =
     refusal_is one other (a.place_is ∙ sym b.place_is) (a.why_is ∙ sym b.why_is)
-offence_once bytes one other (inr (inl a)) (inr (inr b)) = absurd (end_time bytes one other a b)
-offence_once bytes one other (inr (inr a)) (inl b) = absurd (byte_time bytes other one b a)
-offence_once bytes one other (inr (inr a)) (inr (inl b)) = absurd (end_time bytes other one b a)
-offence_once bytes one other (inr (inr a)) (inr (inr b)) = time_time bytes one other a b
+offence_once opening bytes one other (inr (inl a)) (inr (inr b)) = absurd (end_time opening bytes one other a b)
+offence_once opening bytes one other (inr (inr a)) (inl b) = absurd (byte_time opening bytes other one b a)
+offence_once opening bytes one other (inr (inr a)) (inr (inl b)) = absurd (end_time opening bytes other one b a)
+offence_once opening bytes one other (inr (inr a)) (inr (inr b)) = time_time opening bytes one other a b
 
 -- a file has none
-pub no_offence : (bytes : List ℕ) (refusal : Refusal) (pairs : List (ℕ × Pair)) → IsFirstOffence bytes refusal → IsSccFile pairs bytes → ⊥
-no_offence bytes refusal pairs (inl a) file =
+pub no_offence : (opening : Option ℕ) (bytes : List ℕ) (refusal : Refusal) (pairs : List (ℕ × Pair)) → IsFirstOffence opening bytes refusal → IsSccFile opening pairs bytes → ⊥
+no_offence opening bytes refusal pairs (inl a) file =
     let size : length bytes ≡ length a.before + length (a.byte ∷ a.rest) = ap length a.spelled ∙ length-append a.before (a.byte ∷ a.rest) in
     let begins : BeginsForm bytes = record { more = []; lines = file.lines; form = subst (IsForm file.lines) (sym (append-nil bytes)) file.form } in
-    byte_early bytes bytes [] refusal a (sym (append-nil bytes)) begins (omega (arith, size))
-no_offence bytes refusal pairs (inr (inl a)) file = a.no_file file.lines file.form
-no_offence bytes refusal pairs (inr (inr a)) file =
-    a.offends (record { more = a.rest; pairs = pairs; file = subst (IsSccFile pairs) (a.spelled ∙ sym (append_assoc a.start a.text a.rest)) file })
+    byte_early opening bytes bytes [] refusal a (sym (append-nil bytes)) begins (omega (arith, size))
+no_offence opening bytes refusal pairs (inr (inl a)) file = a.no_file file.lines file.form
+no_offence opening bytes refusal pairs (inr (inr a)) file =
+    a.offends (record { more = a.rest; pairs = pairs; file = subst (IsSccFile opening pairs) (a.spelled ∙ sym (append_assoc a.start a.text a.rest)) file })

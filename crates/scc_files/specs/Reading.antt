@@ -22,13 +22,13 @@ use Rattle.scc_files.specs.declared.reader.Reader.{Reader}
 abbrev pub frame_of_text : List ℕ → Option ℕ
 frame_of_text text = option_and_then (λ t. result_ok (frame_of t)) (time_of_text text)
 
--- where the first pair stands
-abbrev pub at_first_frame : Position
-at_first_frame = record { start = None; last = 0; next = 0 }
+-- where the first pair stands, if frame 0 is at this frame of the day, or at the first line's
+abbrev pub at_first_frame : Option ℕ → Position
+at_first_frame opening = record { start = opening; last = unwrap_or opening 0; next = 0 }
 
 -- where bytes begin to be read
-abbrev pub at_first : Reader
-at_first = record { phase = phase.First 0; position = at_first_frame }
+abbrev pub at_first : Option ℕ → Reader
+at_first opening = record { phase = phase.First 0; position = at_first_frame opening }
 
 -- where the first pair of a line stands whose time code has this frame of the day
 abbrev pub line_at : Position → ℕ → Position
@@ -93,8 +93,8 @@ read_from judging place r [] = if may_end r.phase then Ok [] else Err (record { 
 read_from judging place r (byte ∷ bytes) = behind place (step judging r byte) (λ s. read_from judging (place + 1) s bytes)
 
 -- of a whole file
-abbrev pub read_file : List ℕ → Result (List (ℕ × Pair)) Refusal
-read_file bytes = read_from true 0 at_first bytes
+abbrev pub read_file : Option ℕ → List ℕ → Result (List (ℕ × Pair)) Refusal
+read_file opening bytes = read_from true 0 (at_first opening) bytes
 
 -- how many frames pairs at frames in order take: those up to that of the last one
 abbrev pub frames_to : ℕ → List (ℕ × Pair) → ℕ

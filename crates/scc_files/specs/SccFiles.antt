@@ -16,8 +16,8 @@ abbrev pub one_a_frame : ℕ → List Pair → List (ℕ × Pair)
 one_a_frame frame [] = []
 one_a_frame frame (pair ∷ pairs) = (frame, pair) ∷ one_a_frame (frame + 1) pairs
 
--- the pairs of lines at their frames, counted from the first time code's frame of the day, `start`: a line's first pair stands at the
--- line's frame, or at `next`, the frame after the last pair, whichever is later
+-- the pairs of lines at their frames, counted from a frame of the day, `start`, or else from the first time code's: a line's first pair
+-- stands at the line's frame, or at `next`, the frame after the last pair, whichever is later
 abbrev pub placed_from : Option ℕ → ℕ → List (Option TimedLine) → List (ℕ × Pair)
 placed_from start next [] = []
 placed_from start next (None ∷ lines) = placed_from start next lines
@@ -26,12 +26,13 @@ placed_from start next (Some line ∷ lines) =
     let frame = max (frame_number line.time - first) next in
     one_a_frame frame (line.first ∷ line.more) ++ placed_from (Some first) (frame + 1 + length line.more) lines
 
--- the bytes are an SCC file of the pairs
-pub record IsSccFile (pairs : List (ℕ × Pair)) (bytes : List ℕ) : Type 0 where
+-- the bytes are an SCC file of the pairs. Frame 0 is at `opening`, a frame of the day before which no line stands; where none is given, it
+-- is at the first line's time code
+pub record IsSccFile (opening : Option ℕ) (pairs : List (ℕ × Pair)) (bytes : List ℕ) : Type 0 where
   pub lines : List (Option TimedLine)
   pub form : IsForm lines bytes
-  pub timed : AreTimed 0 lines
-  pub placed : pairs ≡ placed_from None 0 lines
+  pub timed : AreTimed (unwrap_or opening 0) lines
+  pub placed : pairs ≡ placed_from opening 0 lines
 
 -- pairs at frames that rise strictly, none before this one
 abbrev pub AreRising : ℕ → List (ℕ × Pair) → Type 0

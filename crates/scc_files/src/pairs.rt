@@ -4,7 +4,7 @@ use line21_codes::Pair;
 use std::alloc::{AllocError, Global};
 use std::marker::Model;
 
-/// The pairs of an SCC file, seen as the list of them in order, each with its frame counted from the first line's time code.
+/// The pairs of an SCC file, seen as the list of them in order, each with its frame.
 #[derive(Drop)]
 pub struct SccPairs {
     items: Vec<(u32, Pair)>,

@@ -19,11 +19,11 @@ pub struct Offence {
 /// Where pairs stand.
 #[derive(Clone, Copy)]
 pub struct Position {
-    /// The frame of the day of the first time code.
+    /// The frame of the day of frame 0: the given one, or that of the first time code.
     pub start: Option<u32>,
-    /// The frame of the day of the last time code.
+    /// The frame of the day before which the next time code doesn't stand: that of the last one, or of frame 0 where it is given.
     pub last: u32,
-    /// The frame of the next pair, counted from the first time code's.
+    /// The frame of the next pair, counted from frame 0.
     pub next: u32,
 }
 
@@ -74,13 +74,13 @@ impl Position {
 }
 
 impl Reader {
-    /// A reader of no bytes.
-    pub fn new() -> Reader
-        ensures { result ≡ at_first }
+    /// A reader of no bytes, of a file whose frame 0 is at this frame of the day, or at the first line's time code.
+    pub fn new(opening: Option<u32>) -> Reader
+        ensures { result ≡ at_first opening }
     {
         let position = Position {
-            start: None,
-            last: 0,
+            start: opening,
+            last: opening.unwrap_or(0),
             next: 0,
         };
         Reader {

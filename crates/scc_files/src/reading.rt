@@ -58,28 +58,29 @@ impl Gathered {
     }
 }
 
-/// Reads an SCC file of at most 67,108,864 bytes: its pairs with their parity bits as they are, each at its frame counted from the
-/// first line's time code. One pass over the bytes; the only memory taken is for the pairs.
+/// Reads an SCC file of at most 67,108,864 bytes: its pairs with their parity bits as they are, each at its frame. Frame 0 is at the
+/// frame `opening` of the day where one is given, and else at the first line's time code. One pass over the bytes; the only memory
+/// taken is for the pairs.
 ///
 /// Malformed comes exactly where the bytes are no SCC file, with the place and the reason of their first offence: Header at the first
 /// byte that no first line has, SccSyntax at the first byte that no line can continue with, both at the number of bytes where the file
-/// ends too soon; NoSuchTime and Backwards at the first byte of a time code's text, which is judged when it is whole. Limit (Frames)
-/// comes exactly where the bytes are an SCC file of more than 2,592,000 frames.
-pub fn read_scc(alloc: Global, bytes: &[u8]) -> Result<SccPairs, SccFault>
+/// ends too soon; NoSuchTime and Backwards at the first byte of a time code's text, which is judged when it is whole. A first time code
+/// before `opening` is Backwards too. Limit (Frames) comes exactly where the bytes are an SCC file of more than 2,592,000 frames.
+pub fn read_scc(alloc: Global, opening: Option<u32>, bytes: &[u8]) -> Result<SccPairs, SccFault>
     requires { length bytes.now ≤ whole_limit }
-    ensures answers { AnswersPairs (read_file bytes.now) result }
-    ensures file { FileAnswers bytes.now result }
+    ensures answers { AnswersPairs (read_file opening bytes.now) result }
+    ensures file { FileAnswers opening bytes.now result }
 {
-    read_bytes(alloc, bytes)
+    read_bytes(alloc, opening, bytes)
 }
 
 // Reads them byte by byte.
-fn read_bytes(alloc: Global, bytes: &[u8]) -> Result<SccPairs, SccFault>
+fn read_bytes(alloc: Global, opening: Option<u32>, bytes: &[u8]) -> Result<SccPairs, SccFault>
     requires { length bytes.now ≤ whole_limit }
-    ensures { AnswersPairs (read_file bytes.now) result }
+    ensures { AnswersPairs (read_file opening bytes.now) result }
 {
     let mut gathered = Gathered {
-        reader: Reader::new(),
+        reader: Reader::new(opening),
         pairs: SccPairs::new(alloc),
         frames: 0,
     };

@@ -8,6 +8,9 @@ run_export-requires g c = rw c.in-Export.is at c.requires
 pub run_load-requires : goal.run_load-requires
 run_load-requires g c = let within = rw c.in-Load.is at c.requires in record { some = within.0; most = within.1 }
 
+pub run_import-requires : goal.run_import-requires
+run_import-requires g c = rw c.in-Import.is at c.requires
+
 pub run_export_mcc-requires : goal.run_export_mcc-requires
 run_export_mcc-requires g c = rw c.in-ExportMcc.is at c.requires
 

@@ -13,8 +13,8 @@ loop-at-preserved c =
       next = omega (arith, c.in-Ok.ensures.next);
       frames = frames ∙ (ap (λ f. frames_with f given) c.loop-at.invariant.frames
           ∙ (sym (frames_more 0 c.loop-at.gathered.pairs given) ∙ ap frames_of (sym pairs)));
-      due = subst (λ (z : List (ℕ × Pair)). read_file c.args.bytes.now ≡ onto z (read_from true (c.loop-at.at + 1) c.take.new.self.reader (drop (c.loop-at.at + 1) c.args.bytes.now)))
+      due = subst (λ (z : List (ℕ × Pair)). read_file c.args.opening c.args.bytes.now ≡ onto z (read_from true (c.loop-at.at + 1) c.take.new.self.reader (drop (c.loop-at.at + 1) c.args.bytes.now)))
           (sym pairs)
-          (read_ok (read_file c.args.bytes.now) c.loop-at.gathered.pairs c.loop-at.gathered.reader c.take.new.self.reader c.args.bytes.now c.loop-at.at _ c.loop-at-test.true
+          (read_ok (read_file c.args.opening c.args.bytes.now) c.loop-at.gathered.pairs c.loop-at.gathered.reader c.take.new.self.reader c.args.bytes.now c.loop-at.at _ c.loop-at-test.true
           c.loop-at.invariant.due given stepped);
     }

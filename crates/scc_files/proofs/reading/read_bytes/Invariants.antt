@@ -11,5 +11,5 @@ invariant-loop-at l =
       within : HasNumbersInRange l.gathered.reader.phase;
       next : l.gathered.reader.position.next ≤ 2592000 + l.at;
       frames : l.gathered.frames ≡ frames_of l.gathered.pairs;
-      due : read_file l.bytes ≡ onto l.gathered.pairs (read_from true l.at l.gathered.reader (drop l.at l.bytes));
+      due : read_file l.fn.opening l.bytes ≡ onto l.gathered.pairs (read_from true l.at l.gathered.reader (drop l.at l.bytes));
     }
