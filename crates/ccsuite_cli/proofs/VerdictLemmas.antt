@@ -28,9 +28,9 @@ use Rattle.scc_commands.proofs.ImportEveryLemmas.{every_import}
 use Rattle.verify_commands.proofs.EveryLemmas.{every_verify}
 use Rattle.verify_commands.proofs.VerdictLemmas.{verify_one}
 use Rattle.words_commands.proofs.VerdictLemmas.{changes_one, every_changes, every_show, show_one}
-use Rattle.words_commands.specs.ConcealedScreens.{concealed_changes}
-use Rattle.words_commands.specs.PacketLines.{packet_lines}
-use Rattle.words_commands.specs.Screens.{changes_of}
+use Rattle.words_commands.specs.ConcealedScreens.{next_concealed}
+use Rattle.words_commands.specs.PacketLines.{next_packets}
+use Rattle.words_commands.specs.Screens.{next_changes}
 use Rattle.xds_commands.proofs.VerdictLemmas.{xds_one}
 use Rattle.xds_commands.proofs.EveryLemmas.{every_xds}
 use Rattle.ccsuite_cli.specs.Answer.{input_for, side_for, verdict_of}
@@ -43,10 +43,10 @@ verdict_one Build = build_one
 verdict_one Cues = cues_one
 verdict_one Dual = dual_one
 verdict_one Xds = xds_one
-verdict_one Decode = changes_one changes_of
+verdict_one Decode = changes_one next_changes
 verdict_one (Show frame) = show_one frame
-verdict_one Conceal = changes_one concealed_changes
-verdict_one XdsShow = changes_one packet_lines
+verdict_one Conceal = changes_one next_concealed
+verdict_one XdsShow = changes_one next_packets
 verdict_one Verify = verify_one
 verdict_one Insert = insert_one
 verdict_one Convert = convert_one
@@ -65,10 +65,10 @@ every_input Build runs = every_build
 every_input Cues runs = every_cues
 every_input Dual runs = every_dual
 every_input Xds runs = every_xds
-every_input Decode runs = every_changes changes_of
+every_input Decode runs = every_changes next_changes
 every_input (Show frame) runs = every_show frame
-every_input Conceal runs = every_changes concealed_changes
-every_input XdsShow runs = every_changes packet_lines
+every_input Conceal runs = every_changes next_concealed
+every_input XdsShow runs = every_changes next_packets
 every_input Verify runs = every_verify
 every_input Insert runs = every_insert
 every_input Convert runs = every_convert

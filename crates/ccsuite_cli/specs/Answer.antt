@@ -22,9 +22,9 @@ use Rattle.mcc_commands.specs.ImportMcc.{ImportMccVerdict}
 use Rattle.scc_commands.specs.Export.{ExportVerdict}
 use Rattle.scc_commands.specs.Import.{ImportVerdict}
 use Rattle.verify_commands.specs.VerifyVerdict.{VerifyVerdict}
-use Rattle.words_commands.specs.ConcealedScreens.{concealed_changes}
-use Rattle.words_commands.specs.PacketLines.{packet_lines}
-use Rattle.words_commands.specs.Screens.{changes_of}
+use Rattle.words_commands.specs.ConcealedScreens.{next_concealed}
+use Rattle.words_commands.specs.PacketLines.{next_packets}
+use Rattle.words_commands.specs.Screens.{next_changes}
 use Rattle.words_commands.specs.Verdicts.{ChangesVerdict, ShowVerdict}
 use Rattle.xds_commands.specs.PacketLists.{IsGoodPackets}
 use Rattle.xds_commands.specs.XdsVerdict.{XdsVerdict}
@@ -39,10 +39,10 @@ verdict_of Build aside = BuildVerdict
 verdict_of Cues aside = CuesVerdict
 verdict_of Dual aside = DualVerdict aside
 verdict_of Xds aside = XdsVerdict aside
-verdict_of Decode aside = ChangesVerdict changes_of
+verdict_of Decode aside = ChangesVerdict next_changes
 verdict_of (Show frame) aside = ShowVerdict frame
-verdict_of Conceal aside = ChangesVerdict concealed_changes
-verdict_of XdsShow aside = ChangesVerdict packet_lines
+verdict_of Conceal aside = ChangesVerdict next_concealed
+verdict_of XdsShow aside = ChangesVerdict next_packets
 verdict_of Verify aside = VerifyVerdict aside
 verdict_of Insert aside = InsertVerdict aside
 verdict_of Convert aside = ConvertVerdict

@@ -1,5 +1,5 @@
 -- What `decode` and `show` answer where a words file was read, or the reading of it stopped before.
-use Rattle.std.proofs.Common.{inl, ◌≡◌, ◌∙◌, ◌<◌, ◌≤◌, ◌++◌, ap, arith, length, refl, subst, sym, ℕ, List, [], Option, None}
+use Rattle.std.proofs.Common.{inl, ◌≡◌, ◌∙◌, ◌<◌, ◌≤◌, ◌++◌, ◌∷◌, ap, arith, codes, decimal, length, refl, subst, sym, ℕ, List, [], Option, None}
 use Rattle.cc_base.proofs.Puts.{puts_then}
 use Rattle.cc_base.specs.Streams.{Puts, Rose}
 use Rattle.cc_base.specs.declared.streams.Put.{Put}
@@ -30,7 +30,8 @@ use Rattle.words_reading.specs.declared.frames.Frames.{Frames}
 use Rattle.words_reading.specs.declared.judge.Never.{Never}
 use Rattle.words_reading.specs.declared.judge.Stop.{Stop}
 use Rattle.words_commands.proofs.PrintingLemmas.{nothing_shown, show_before}
-use Rattle.words_commands.specs.Screens.{changes_of, counted, frames_line, show_output}
+use Rattle.words_commands.specs.Screens.{counted, next_changes, show_output, texts_behind}
+use Rattle.cc_base.specs.Texts.{text as text_joined}
 use Rattle.words_commands.specs.Verdicts.{ChangesVerdict, IsTextOf, ShowEnd, ShowVerdict}
 use Rattle.words_reading.specs.WordsVerdict.{EndsWell, NeverHalts, WordsVerdict}
 use Rattle.command_base.specs.Realises.{RealisesLeaving}
@@ -52,12 +53,16 @@ abbrev pub HasStopped : (List Frame → List ℕ) → Ends → Ends → Stop Nev
 HasStopped text_of old new why =
     Stopped (IsTextOf text_of) (λ never. FramesHalt text_of (λ frames. Unit {0}) (λ frames last. ⊥)) old new why
 
+-- the line of the number of frames
+abbrev pub frames_line : ℕ → List ℕ
+frames_line count = text_joined (codes "frames " ∷ decimal count ∷ codes "\n" ∷ [])
+
 -- a decoding that judged nothing
 pub nothing_decoded : (reading : Frames Changes) (shown : Shown) → HasReceived [] (receiver_of reading) → reading.maker ≡ record { shown = shown }
     → (last_shown shown).grids ≡ (λ chan. empty_grid) → ((service id : ℕ) → (last_shown shown).windows service id ≡ None)
-    → HasJudgedFrames changes_of (λ frames (changes : Changes). LookAlike (last_shown changes.shown) (received_screens frames)) [] [] reading
+    → HasJudgedFrames (texts_behind next_changes []) (λ frames (changes : Changes). LookAlike (last_shown changes.shown) (received_screens frames)) [] [] reading
 nothing_decoded reading shown received is grids none =
-    nothing_judged changes_of _ [] reading received
+    nothing_judged (texts_behind next_changes []) _ [] reading received
     (subst (λ (m : Changes). LookAlike (last_shown m.shown) (received_screens [])) (sym is) (nothing_shown (last_shown shown) grids none)) refl
 
 -- bytes that bring this many frames, whose text this is
@@ -95,10 +100,10 @@ ended_counted text_of Stands reading count old new (steady, stops) counts =
     )
 
 -- the number of frames was put after their changes, or a front of it
-count_put : (changes : List Frame → List ℕ) (first left start now then : Option (List ℕ)) (reads later writes still last count : ℕ) (answer : Put)
-    → HasEndedCounted changes count (ends first reads start writes) (ends left later now still) → Puts now then answer (frames_line count)
-    → Stops (IsTextOf (counted changes)) (IsWholeFile first) answer (ends first reads start writes) (ends left later then last)
-count_put changes first left start now then reads later writes still last count answer (steady, stops) line =
+count_put : (next : List Frame → Frame → List ℕ) (first left start now then : Option (List ℕ)) (reads later writes still last count : ℕ) (answer : Put)
+    → HasEndedCounted (texts_behind next []) count (ends first reads start writes) (ends left later now still) → Puts now then answer (frames_line count)
+    → Stops (IsTextOf (counted next)) (IsWholeFile first) answer (ends first reads start writes) (ends left later then last)
+count_put next first left start now then reads later writes still last count answer (steady, stops) line =
     let had = stops.says in
     record {
       judged = stops.judged;
@@ -110,7 +115,7 @@ count_put changes first left start now then reads later writes still last count 
         frames = had.frames;
         frames_are = had.frames_are;
         fit = tt;
-        text_is = ap (λ l. l ++ frames_line count) had.text_is ∙ ap (λ n. changes had.frames ++ frames_line n) had.count_is;
+        text_is = ap (λ l. l ++ frames_line count) had.text_is ∙ ap (λ n. texts_behind next [] had.frames ++ frames_line n) had.count_is;
       };
       cause = stops.cause;
       output = puts_then start now then answer stops.text (frames_line count) stops.output line;
@@ -123,28 +128,28 @@ text_in text_of frames judged text file says =
     says.text_is ∙ ap text_of (frames_of_once caption_channel says.frames frames judged says.frames_are (file_frames caption_channel frames judged file))
 
 -- the changes of all frames, and their number
-abbrev pub ChangesEnd : (List Frame → List ℕ) → Status → List ℕ → List ℕ → Type 0
-ChangesEnd changes = EndsWell (λ frames text. text ≡ counted changes frames)
+abbrev pub ChangesEnd : (List Frame → Frame → List ℕ) → Status → List ℕ → List ℕ → Type 0
+ChangesEnd next = EndsWell (λ frames text. text ≡ counted next frames)
 
-changes_end : (changes : List Frame → List ℕ) (frames : List Frame) (judged text : List ℕ) → IsFileUnder caption_channel frames judged → IsTextOf (counted changes) judged text
-    → ChangesEnd changes status.Ok judged text
-changes_end changes frames judged text file says = (frames, file, text_in (counted changes) frames judged text file says)
+changes_end : (next : List Frame → Frame → List ℕ) (frames : List Frame) (judged text : List ℕ) → IsFileUnder caption_channel frames judged → IsTextOf (counted next) judged text
+    → ChangesEnd next status.Ok judged text
+changes_end next frames judged text file says = (frames, file, text_in (counted next) frames judged text file says)
 
-pub changes_done : (changes : List Frame → List ℕ) (first left start now then : Option (List ℕ)) (reads later writes still last count : ℕ)
-    → HasEndedCounted changes count (ends first reads start writes) (ends left later now still) → Puts now then put.Done (frames_line count)
-    → last ≡ still → RealisesLeaving (ChangesVerdict changes) (ends first reads start writes) (ends left later then last) status.Ok
-changes_done changes first left start now then reads later writes still last count ended line same =
-    whole_realised (ChangesEnd changes) (IsTextOf changes) NeverHalts (IsTextOf (counted changes)) (changes_end changes) _ _ (
+pub changes_done : (next : List Frame → Frame → List ℕ) (first left start now then : Option (List ℕ)) (reads later writes still last count : ℕ)
+    → HasEndedCounted (texts_behind next []) count (ends first reads start writes) (ends left later now still) → Puts now then put.Done (frames_line count)
+    → last ≡ still → RealisesLeaving (ChangesVerdict next) (ends first reads start writes) (ends left later then last) status.Ok
+changes_done next first left start now then reads later writes still last count ended line same =
+    whole_realised (ChangesEnd next) (IsTextOf (texts_behind next [])) NeverHalts (IsTextOf (counted next)) (changes_end next) _ _ (
       record { reads = ended.0.reads; writes = same ∙ ended.0.writes },
-      count_put changes first left start now then reads later writes still last count put.Done ended line,
+      count_put next first left start now then reads later writes still last count put.Done ended line,
     )
 
-pub changes_unwritten : (changes : List Frame → List ℕ) (first left start now then : Option (List ℕ)) (reads later writes still last count : ℕ)
-    → HasEndedCounted changes count (ends first reads start writes) (ends left later now still) → Puts now then put.Failed (frames_line count)
-    → Rose still last → RealisesLeaving (ChangesVerdict changes) (ends first reads start writes) (ends left later then last) status.WriteFault
-changes_unwritten changes first left start now then reads later writes still last count ended line rose =
-    unwritten_realised (ChangesEnd changes) (IsTextOf changes) NeverHalts (IsTextOf (counted changes)) (changes_end changes) _ _
-    ended.0.reads (subst (λ n. Rose n last) ended.0.writes rose) (count_put changes first left start now then reads later writes still last count put.Failed ended line)
+pub changes_unwritten : (next : List Frame → Frame → List ℕ) (first left start now then : Option (List ℕ)) (reads later writes still last count : ℕ)
+    → HasEndedCounted (texts_behind next []) count (ends first reads start writes) (ends left later now still) → Puts now then put.Failed (frames_line count)
+    → Rose still last → RealisesLeaving (ChangesVerdict next) (ends first reads start writes) (ends left later then last) status.WriteFault
+changes_unwritten next first left start now then reads later writes still last count ended line rose =
+    unwritten_realised (ChangesEnd next) (IsTextOf (texts_behind next [])) NeverHalts (IsTextOf (counted next)) (changes_end next) _ _
+    ended.0.reads (subst (λ n. Rose n last) ended.0.writes rose) (count_put next first left start now then reads later writes still last count put.Failed ended line)
 
 -- a reading that stopped before the end of the file is answered so
 stopped : (text_of : List Frame → List ℕ) (AtEnd : Status → List ℕ → List ℕ → Type 0) (old new : Ends) (why : Stop Never) (answer : Status) → HasStopped text_of old new why
@@ -153,9 +158,9 @@ stopped text_of AtEnd =
     stopped_realised (IsTextOf text_of) AtEnd NeverHalts (frames_stay text_of (λ frames. Unit {0}))
     (λ (never : Never). FramesHalt text_of (λ frames. Unit {0}) (λ frames last. ⊥)) never_status (λ never bytes text halts. halts.is) (λ never. elim never [ ])
 
-pub changes_stopped : (changes : List Frame → List ℕ) (old new : Ends) (why : Stop Never) (answer : Status) → HasStopped changes old new why
-    → answer ≡ stop_status never_status why → RealisesLeaving (ChangesVerdict changes) old new answer
-changes_stopped changes = stopped changes (ChangesEnd changes)
+pub changes_stopped : (next : List Frame → Frame → List ℕ) (old new : Ends) (why : Stop Never) (answer : Status) → HasStopped (texts_behind next []) old new why
+    → answer ≡ stop_status never_status why → RealisesLeaving (ChangesVerdict next) old new answer
+changes_stopped next = stopped (texts_behind next []) (ChangesEnd next)
 
 pub show_stopped : (frame : ℕ) (old new : Ends) (why : Stop Never) (answer : Status) → HasStopped (show_output frame) old new why → answer ≡ stop_status never_status why
     → RealisesLeaving (ShowVerdict frame) old new answer

@@ -38,7 +38,8 @@ use Rattle.words_reading.specs.Reading.{Stops}
 use Rattle.words_reading.specs.declared.judge.Never.{Never}
 use Rattle.words_reading.specs.declared.judge.Stop.{Stop}
 use Rattle.words_reading.specs.declared.judge.Stop.TheVariants as stop
-use Rattle.words_commands.specs.ConcealedScreens.{concealed_changes, concealed_screens, lost_line, next_concealed}
+use Rattle.words_commands.specs.Screens.{texts_behind}
+use Rattle.words_commands.specs.ConcealedScreens.{concealed_screens, lost_line, next_concealed}
 use Rattle.words_commands.specs.Concealing.{HasJudgedConcealed, HasReadConcealed, ShownLast}
 use Rattle.words_commands.specs.declared.concealing.Concealing.{Concealing}
 use Rattle.words_commands.proofs.PrintingLemmas.{alike_after, gathered_still, texts_more}
@@ -52,10 +53,10 @@ screens_now frames concealer conceals =
 
 -- a frame before which none is missing, and that leaves the screens as they were, has no text
 pub idle_kept : (start now : Option (List ℕ)) (held : List ℕ) (frames : List Frame) (last : Frame) (shown : Shown) (missing : ℕ)
-    → ShownLast frames shown → IsGathered start now held (concealed_changes frames) → missing ≡ missing_before (frames ++ last ∷ []) → missing ≡ 0
+    → ShownLast frames shown → IsGathered start now held (texts_behind next_concealed [] frames) → missing ≡ missing_before (frames ++ last ∷ []) → missing ≡ 0
     → ((chan : Chan) → concealed_grids (frames ++ last ∷ []) chan ≡ concealed_grids frames chan)
     → ((service id : ℕ) → IsService service → concealed_windows (frames ++ last ∷ []) service id ≡ concealed_windows frames service id)
-    → ShownLast (frames ++ last ∷ []) shown × IsGathered start now held (concealed_changes (frames ++ last ∷ []))
+    → ShownLast (frames ++ last ∷ []) shown × IsGathered start now held (texts_behind next_concealed [] (frames ++ last ∷ []))
 idle_kept start now held frames last shown missing alike way is zero grids windows =
     let all = frames ++ last ∷ [] in
     let same : LookAlike (concealed_screens frames) (concealed_screens all) = record {
@@ -66,32 +67,32 @@ idle_kept start now held frames last shown missing alike way is zero grids windo
     ap (λ m. lost_line m (number_of_last all) ++ changes_text (number_of_last all) (concealed_screens frames) (concealed_screens all)) (sym is ∙ zero)
     ∙ no_changes (number_of_last all) (concealed_screens frames) (concealed_screens all) same in (
       alike_after (last_shown shown) (concealed_screens frames) (concealed_screens all) alike same,
-      gathered_still start now held (concealed_changes frames) (concealed_changes all) way
-          (texts_more next_concealed frames last ∙ ap (λ l. concealed_changes frames ++ l) none ∙ append-nil (concealed_changes frames)),
+      gathered_still start now held (texts_behind next_concealed [] frames) (texts_behind next_concealed [] all) way
+          (texts_more next_concealed frames last ∙ ap (λ l. texts_behind next_concealed [] frames ++ l) none ∙ append-nil (texts_behind next_concealed [] frames)),
     )
 
 -- the line of those missing and the changes of a frame more were written
 pub frame_gathered : (start : Option (List ℕ)) (old then new : Page) (r : Put) (frames : List Frame) (last : Frame) (missing number : ℕ) (shown screens : Screens)
-    → IsGathered start old.written (held_of old.text) (concealed_changes frames) → answer_of old.text ≡ put.Done
+    → IsGathered start old.written (held_of old.text) (texts_behind next_concealed [] frames) → answer_of old.text ≡ put.Done
     → Writes old then (lost_line missing number) → Writes then new (changes_text number shown screens) → r ≡ answer_of new.text
     → LookAlike shown (concealed_screens frames) → screens ≡ concealed_screens (frames ++ last ∷ []) → missing ≡ missing_before (frames ++ last ∷ [])
     → number ≡ number_of_last (frames ++ last ∷ [])
-    → GathersText start new.written (held_of new.text) (concealed_changes (frames ++ last ∷ [])) r
+    → GathersText start new.written (held_of new.text) (texts_behind next_concealed [] (frames ++ last ∷ [])) r
 frame_gathered start old then new r frames last missing number shown screens way done lost changed answered alike same missed numbered =
     let all = frames ++ last ∷ [] in
-    let before = concealed_changes frames in
+    let before = texts_behind next_concealed [] frames in
     let line : lost_line missing number ≡ lost_line (missing_before all) (number_of_last all) =
     ap (λ m. lost_line m number) missed ∙ ap (lost_line (missing_before all)) numbered in
     let changes : changes_text number shown screens ≡ changes_text (number_of_last all) (concealed_screens frames) (concealed_screens all) =
     changes_alike number shown (concealed_screens frames) screens alike
     ∙ ap (λ s. changes_text number (concealed_screens frames) s) same
     ∙ ap (λ n. changes_text n (concealed_screens frames) (concealed_screens all)) numbered in
-    let more : (before ++ lost_line missing number) ++ changes_text number shown screens ≡ concealed_changes all =
+    let more : (before ++ lost_line missing number) ++ changes_text number shown screens ≡ texts_behind next_concealed [] all =
     append_assoc before (lost_line missing number) (changes_text number shown screens)
     ∙ ap (λ l. before ++ (l ++ changes_text number shown screens)) line
     ∙ ap (λ l. before ++ (lost_line (missing_before all) (number_of_last all) ++ l)) changes
     ∙ sym (texts_more next_concealed frames last) in
-    subst (λ a. GathersText start new.written (held_of new.text) (concealed_changes all) a) (sym answered)
+    subst (λ a. GathersText start new.written (held_of new.text) (texts_behind next_concealed [] all) a) (sym answered)
     (subst (λ l. GathersText start new.written (held_of new.text) l (answer_of new.text)) more
     (changed start old.faults (before ++ lost_line missing number) (lost start old.faults before (begun_written start before old done way))).bytes)
 
@@ -134,7 +135,7 @@ front_concealed before bytes old new fed read feeds had within moves =
 -- a word was refused
 pub word_refused : {R : Type 0} → (Halts : R → List ℕ → List ℕ → Type 0) (start now : Option (List ℕ)) (held before bytes : List ℕ) (old : Concealing) (new : Concealer) (refusal : Refusal)
     → HasGathered HasJudgedConcealed start now held before old → HasRefused before bytes (receiver_of old.concealer) (receiver_of new) refusal
-    → HasStopped (FramesSay concealed_changes (λ frames. Unit {0})) Halts start now held (before ++ bytes) (stop.Refused refusal)
+    → HasStopped (FramesSay (texts_behind next_concealed []) (λ frames. Unit {0})) Halts start now held (before ++ bytes) (stop.Refused refusal)
 word_refused Halts start now held before bytes old new refusal had refused = record {
   judged = before ++ bytes;
   unjudged = [];
@@ -194,7 +195,7 @@ some_frame before bytes old new fed feeds caption =
 pub frame_added : (start then : Option (List ℕ)) (held before bytes text : List ℕ) (old new : Concealing) (fed : Fed) → (had : HasJudgedConcealed before text old)
     → HasFed before bytes (receiver_of old.concealer) (receiver_of new.concealer) fed → HasConcealed (before ++ take fed.used bytes) new.concealer
     → fed.used ≤ length bytes → 0 < fed.used → fed.ended ≡ ended.Caption → (next : IsNextFrame had.frames (before ++ take fed.used bytes))
-    → ShownLast (had.frames ++ next.frame ∷ []) new.shown → IsGathered start then held (concealed_changes (had.frames ++ next.frame ∷ []))
+    → ShownLast (had.frames ++ next.frame ∷ []) new.shown → IsGathered start then held (texts_behind next_concealed [] (had.frames ++ next.frame ∷ []))
     → HasGathered HasJudgedConcealed start then held (before ++ take fed.used bytes) new
 frame_added start then held before bytes text old new fed had feeds concealed within moves caption next shown way =
     let count : concealed_frames new.concealer ≡ concealed_frames old.concealer + 1 =
@@ -202,7 +203,7 @@ frame_added start then held before bytes text old new fed had feeds concealed wi
     let size = front_size before bytes fed.used within in
     let few = had.few in
     record {
-      text = concealed_changes (had.frames ++ next.frame ∷ []);
+      text = texts_behind next_concealed [] (had.frames ++ next.frame ∷ []);
       judged = record {
         had = concealed;
         few = omega arith;
@@ -219,13 +220,13 @@ frame_added start then held before bytes text old new fed had feeds concealed wi
 pub frame_stopped : (start then : Option (List ℕ)) (held before bytes text : List ℕ) (old : Concealing) (new : Concealer) (shown : Shown) (fed : Fed) (why : Stop Never)
     → (had : HasJudgedConcealed before text old) → HasFed before bytes (receiver_of old.concealer) (receiver_of new) fed
     → (next : IsNextFrame had.frames (before ++ take fed.used bytes))
-    → MakesFrame concealed_changes (λ frames. Unit {0}) ShownLast (λ frames last (never : Never). ⊥) start then held had.frames next.frame shown (Err why)
-    → HasStopped (FramesSay concealed_changes (λ frames. Unit {0})) (λ (never : Never). FramesHalt concealed_changes (λ frames. Unit {0}) (λ frames last. ⊥)) start then held
+    → MakesFrame (texts_behind next_concealed []) (λ frames. Unit {0}) ShownLast (λ frames last (never : Never). ⊥) start then held had.frames next.frame shown (Err why)
+    → HasStopped (FramesSay (texts_behind next_concealed []) (λ frames. Unit {0})) (λ (never : Never). FramesHalt (texts_behind next_concealed []) (λ frames. Unit {0}) (λ frames last. ⊥)) start then held
     (before ++ bytes) why
 frame_stopped start then held before bytes text old new shown fed stop.WriteFault had feeds next (fit, failed) = record {
   judged = before ++ take fed.used bytes;
   unjudged = drop fed.used bytes;
-  text = concealed_changes (had.frames ++ next.frame ∷ []);
+  text = texts_behind next_concealed [] (had.frames ++ next.frame ∷ []);
   spelled = front_spelled before bytes fed.used;
   cause = inl (record { frames = had.frames ++ next.frame ∷ []; frames_are = next.frames_are; fit = tt; text_is = refl });
   way = failed;
@@ -239,7 +240,7 @@ frame_stopped start then held before bytes text old new shown fed (stop.Refused 
 pub counted_concealed : (concealing : Concealing) (count : ℕ) (old new : Ends)
     → IsSteady old new × Stops (λ bytes text. HasJudgedConcealed bytes text concealing) (IsWholeFile old.left) put.Done old new
     → ((bytes : List ℕ) (frames : List Frame) → HasConcealed bytes concealing.concealer → AreFramesOf caption_channel frames bytes → count ≡ length frames)
-    → HasEndedCounted concealed_changes count old new
+    → HasEndedCounted (texts_behind next_concealed []) count old new
 counted_concealed concealing count old new (steady, stops) counts =
     let had = stops.says in (
       steady,

@@ -25,8 +25,13 @@ use Rattle.xds_packets.specs.Reading.{ends_at, listed, packets_behind}
 use Rattle.xds_packets.specs.declared.packets.XdsPacket.{XdsPacket}
 use Rattle.xds_packets.specs.declared.reader.XdsReader.{XdsReader}
 use Rattle.words_commands.proofs.PrintingLemmas.{texts_more}
-use Rattle.words_commands.specs.PacketLines.{AllPacketsAreShown, ended_in, frame_packets, next_packets, packet_line, packet_lines, packets_in}
+use Rattle.words_commands.specs.Screens.{texts_behind}
+use Rattle.words_commands.specs.PacketLines.{AllPacketsAreShown, frame_packets, next_packets, packet_line, packets_in}
 use Rattle.words_commands.specs.declared.packet_lines.PacketLines.{PacketLines}
+
+-- the packets that end in pairs of field 2, after those before
+abbrev pub ended_in : List Pair → List Pair → List XdsPacket
+ended_in before pairs = packets_behind (map code_of before) (map code_of pairs)
 
 -- the line of a packet, piece by piece
 pub line_written : (before shown : List ℕ) (frame class kind : ℕ) (packet : XdsPacket) → class ≡ packet.class → kind ≡ packet.kind → shown ≡ packet.text
@@ -90,24 +95,24 @@ pairs_read frames last pairs reader are read =
 
 -- the lines of a frame more were written
 pub lines_gathered : (start : Option (List ℕ)) (old new : Page) (r : Put) (frames : List Frame) (last : Frame) (frame : ℕ) (pairs : List Pair)
-    → IsGathered start old.written (held_of old.text) (packet_lines frames) → answer_of old.text ≡ put.Done
+    → IsGathered start old.written (held_of old.text) (texts_behind next_packets [] frames) → answer_of old.text ≡ put.Done
     → Writes old new (flat_map (packet_line frame) (ended_in (received_pairs Two frames) pairs)) → r ≡ answer_of new.text
     → pairs ≡ field_pairs Two (packet_triplets last) → frame ≡ length frames
-    → GathersText start new.written (held_of new.text) (packet_lines (frames ++ last ∷ [])) r
+    → GathersText start new.written (held_of new.text) (texts_behind next_packets [] (frames ++ last ∷ [])) r
 lines_gathered start old new r frames last frame pairs way done writes answered are number =
-    let more : packet_lines frames ++ flat_map (packet_line frame) (ended_in (received_pairs Two frames) pairs) ≡ packet_lines (frames ++ last ∷ []) =
-    ap (λ ps. packet_lines frames ++ flat_map (packet_line frame) (ended_in (received_pairs Two frames) ps)) are
-    ∙ ap (λ n. packet_lines frames ++ flat_map (packet_line n) (frame_packets frames last)) number
+    let more : texts_behind next_packets [] frames ++ flat_map (packet_line frame) (ended_in (received_pairs Two frames) pairs) ≡ texts_behind next_packets [] (frames ++ last ∷ []) =
+    ap (λ ps. texts_behind next_packets [] frames ++ flat_map (packet_line frame) (ended_in (received_pairs Two frames) ps)) are
+    ∙ ap (λ n. texts_behind next_packets [] frames ++ flat_map (packet_line n) (frame_packets frames last)) number
     ∙ sym (texts_more next_packets frames last) in
-    subst (λ a. GathersText start new.written (held_of new.text) (packet_lines (frames ++ last ∷ [])) a) (sym answered)
+    subst (λ a. GathersText start new.written (held_of new.text) (texts_behind next_packets [] (frames ++ last ∷ [])) a) (sym answered)
     (subst (λ l. GathersText start new.written (held_of new.text) l (answer_of new.text)) more
-    (writes start old.faults (packet_lines frames) (begun_written start (packet_lines frames) old done way)).bytes)
+    (writes start old.faults (texts_behind next_packets [] frames) (begun_written start (texts_behind next_packets [] frames) old done way)).bytes)
 
 -- a reading that judged nothing
 pub nothing_ended : (reading : Frames PacketLines) (reader : XdsReader) → HasReceived [] (receiver_of reading) → reading.maker ≡ record { reader = reader } → HasRead [] reader
-    → HasJudgedFrames packet_lines (λ frames (lines : PacketLines). HasRead (received_pairs Two frames) lines.reader) [] [] reading
+    → HasJudgedFrames (texts_behind next_packets []) (λ frames (lines : PacketLines). HasRead (received_pairs Two frames) lines.reader) [] [] reading
 nothing_ended reading reader received is read =
-    nothing_judged packet_lines _ [] reading received (subst (λ (m : PacketLines). HasRead [] m.reader) (sym is) read) refl
+    nothing_judged (texts_behind next_packets []) _ [] reading received (subst (λ (m : PacketLines). HasRead [] m.reader) (sym is) read) refl
 
 -- all packets are those of the frames
 packets_are : (before frames : List Frame) → packets_in before frames ≡ ended_in (received_pairs Two before) (received_pairs Two frames)

@@ -21,7 +21,7 @@ use Rattle.words_reading.specs.ReceivedServices.{received_windows}
 use Rattle.grid_print.specs.GridTexts.{all_text, changes_text}
 use Rattle.grid_print.specs.Screens.{LookAlike, Screens, received_screens}
 use Rattle.grid_print.proofs.ScreenLemmas.{changes_alike, no_changes}
-use Rattle.words_commands.specs.Screens.{changes_of, next_changes, show_output, texts_behind}
+use Rattle.words_commands.specs.Screens.{next_changes, show_output, texts_behind}
 use Rattle.words_files.specs.Received.{received_grids}
 
 -- the texts of frames after others, with one frame more
@@ -90,19 +90,19 @@ gathered_still a b held all more way same = record { sent = way.sent; appended =
 
 -- the changes of a frame more were written
 pub changes_gathered : (start : Option (List ℕ)) (old new : Page) (r : Put) (frames : List Frame) (next : Frame) (frame : ℕ) (last : Screens)
-    → IsGathered start old.written (held_of old.text) (changes_of frames) → answer_of old.text ≡ put.Done
+    → IsGathered start old.written (held_of old.text) (texts_behind next_changes [] frames) → answer_of old.text ≡ put.Done
     → Writes old new (changes_text frame last (received_screens (frames ++ next ∷ []))) → r ≡ answer_of new.text
     → LookAlike last (received_screens frames) → frame ≡ length frames
-    → GathersText start new.written (held_of new.text) (changes_of (frames ++ next ∷ [])) r
+    → GathersText start new.written (held_of new.text) (texts_behind next_changes [] (frames ++ next ∷ [])) r
 changes_gathered start old new r frames next frame last way done writes answered alike number =
     let changed : changes_text frame last (received_screens (frames ++ next ∷ [])) ≡ next_changes frames next =
     changes_alike frame last (received_screens frames) (received_screens (frames ++ next ∷ [])) alike
     ∙ ap (λ n. changes_text n (received_screens frames) (received_screens (frames ++ next ∷ []))) number in
-    let more : changes_of frames ++ changes_text frame last (received_screens (frames ++ next ∷ [])) ≡ changes_of (frames ++ next ∷ []) =
-    ap (λ l. changes_of frames ++ l) changed ∙ sym (texts_more next_changes frames next) in
-    subst (λ a. GathersText start new.written (held_of new.text) (changes_of (frames ++ next ∷ [])) a) (sym answered)
+    let more : texts_behind next_changes [] frames ++ changes_text frame last (received_screens (frames ++ next ∷ [])) ≡ texts_behind next_changes [] (frames ++ next ∷ []) =
+    ap (λ l. texts_behind next_changes [] frames ++ l) changed ∙ sym (texts_more next_changes frames next) in
+    subst (λ a. GathersText start new.written (held_of new.text) (texts_behind next_changes [] (frames ++ next ∷ [])) a) (sym answered)
     (subst (λ l. GathersText start new.written (held_of new.text) l (answer_of new.text)) more
-    (writes start old.faults (changes_of frames) (begun_written start (changes_of frames) old done way)).bytes)
+    (writes start old.faults (texts_behind next_changes [] frames) (begun_written start (texts_behind next_changes [] frames) old done way)).bytes)
 
 -- what looks like screens that look like others looks like these
 pub alike_after : (a b c : Screens) → LookAlike a b → LookAlike b c → LookAlike a c
@@ -113,12 +113,12 @@ alike_after a b c first next = record {
 
 -- a frame that leaves the screens as they were has no changes
 pub idle_gathered : (a b : Option (List ℕ)) (held : List ℕ) (frames : List Frame) (next : Frame)
-    → LookAlike (received_screens frames) (received_screens (frames ++ next ∷ [])) → IsGathered a b held (changes_of frames)
-    → GathersText a b held (changes_of (frames ++ next ∷ [])) put.Done
+    → LookAlike (received_screens frames) (received_screens (frames ++ next ∷ [])) → IsGathered a b held (texts_behind next_changes [] frames)
+    → GathersText a b held (texts_behind next_changes [] (frames ++ next ∷ [])) put.Done
 idle_gathered a b held frames next same way =
     let none : next_changes frames next ≡ [] = no_changes (length frames) (received_screens frames) (received_screens (frames ++ next ∷ [])) same in
-    gathered_still a b held (changes_of frames) (changes_of (frames ++ next ∷ [])) way
-    (texts_more next_changes frames next ∙ ap (λ l. changes_of frames ++ l) none ∙ append-nil (changes_of frames))
+    gathered_still a b held (texts_behind next_changes [] frames) (texts_behind next_changes [] (frames ++ next ∷ [])) way
+    (texts_more next_changes frames next ∙ ap (λ l. texts_behind next_changes [] frames ++ l) none ∙ append-nil (texts_behind next_changes [] frames))
 
 -- the screens of the wanted frame were put
 pub screens_put : (a b c : Option (List ℕ)) (r : Put) (held : List ℕ) (frames : List Frame) (next : Frame) (frame wanted : ℕ)

@@ -6,7 +6,7 @@ use Rattle.cdp_packets.specs.Packets.{Frame}
 use Rattle.command_base.specs.Exact.{HasVerdict, IsFault, IsOne}
 use Rattle.command_base.specs.declared.status.Status.{Status}
 use Rattle.command_base.specs.declared.status.Status.TheVariants as status
-use Rattle.words_commands.specs.Screens.{counted, show_output}
+use Rattle.words_commands.specs.Screens.{counted, show_output, texts_behind}
 use Rattle.words_commands.proofs.AnswerLemmas.{ChangesEnd}
 use Rattle.words_commands.specs.Verdicts.{ChangesVerdict, IsTextOf, ShowEnd, ShowVerdict}
 use Rattle.words_files.specs.FramesOf.{AreFramesOf}
@@ -17,15 +17,15 @@ use Rattle.words_reading.proofs.OneLemmas.{words_one}
 use Rattle.words_reading.specs.WordsVerdict.{NeverHalts}
 
 -- `decode`, `conceal`, `xds-show`
-changes_end : (text_of : List Frame → List ℕ) (answer : Status) (input text : List ℕ) → ChangesEnd text_of answer input text
+changes_end : (next : List Frame → Frame → List ℕ) (answer : Status) (input text : List ℕ) → ChangesEnd next answer input text
     → (answer ≡ status.Ok) × ((frames : List Frame) × IsFileUnder caption_channel frames input)
-changes_end text_of status.Ok input text (frames, file, is) = (refl, (frames, file))
-changes_end text_of _ input text ends = absurd ends
+changes_end next status.Ok input text (frames, file, is) = (refl, (frames, file))
+changes_end next _ input text ends = absurd ends
 
-pub changes_one : (text_of : List Frame → List ℕ) → IsOne (λ aside. ChangesVerdict text_of)
-changes_one text_of aside =
-    words_one (ChangesEnd text_of) (IsTextOf text_of) NeverHalts (λ answer input text ends. (changes_end text_of answer input text ends).1)
-    (λ input one other text more first next. (changes_end text_of one input text first).0 ∙ sym (changes_end text_of other input more next).0)
+pub changes_one : (next : List Frame → Frame → List ℕ) → IsOne (λ aside. ChangesVerdict next)
+changes_one next aside =
+    words_one (ChangesEnd next) (IsTextOf (texts_behind next [])) NeverHalts (λ answer input text ends. (changes_end next answer input text ends).1)
+    (λ input one other text more first second. (changes_end next one input text first).0 ∙ sym (changes_end next other input more second).0)
     (λ judged rest one other text more halts ends. halts) (λ judged rest one text more halts says. halts)
     (λ judged rest again left one other text more same halts stops. absurd halts)
 
@@ -51,10 +51,10 @@ show_one frame aside =
 text_said : (text_of : List Frame → List ℕ) (bytes : List ℕ) (frames : List Frame) → AreFramesOf caption_channel frames bytes → (text : List ℕ) × IsTextOf text_of bytes text
 text_said text_of bytes frames are = (text_of frames, record { frames = frames; frames_are = are; fit = tt; text_is = refl })
 
-pub every_changes : (text_of : List Frame → List ℕ) → HasVerdict (λ aside. ChangesVerdict text_of)
-every_changes text_of =
-    every_words (ChangesEnd text_of) (IsTextOf text_of) NeverHalts (λ bytes frames are. inl (text_said text_of bytes frames are))
-    (λ input text frames file says. (status.Ok, counted text_of frames, λ fault. fault, (frames, file, refl)))
+pub every_changes : (next : List Frame → Frame → List ℕ) → HasVerdict (λ aside. ChangesVerdict next)
+every_changes next =
+    every_words (ChangesEnd next) (IsTextOf (texts_behind next [])) NeverHalts (λ bytes frames are. inl (text_said (texts_behind next []) bytes frames are))
+    (λ input text frames file says. (status.Ok, counted next frames, λ fault. fault, (frames, file, refl)))
 
 show_ends : (frame : ℕ) (input : List ℕ) (frames : List Frame) → IsFileUnder caption_channel frames input
     → (answer : Status) × (text : List ℕ) × (IsFault answer → ⊥) × ShowEnd frame answer input text

@@ -6,12 +6,12 @@ use Rattle.cc_base.specs.Texts.{text}
 use Rattle.cc_conceal.specs.Concealed.{concealed_grids, concealed_windows, missing_before, number_of_last}
 use Rattle.cdp_packets.specs.Packets.{Frame}
 use Rattle.grid_print.specs.GridTexts.{changes_text}
-use Rattle.grid_print.specs.Screens.{Screens, screens_of}
-use Rattle.words_commands.specs.Screens.{counted, texts_behind}
+use Rattle.grid_print.specs.Screens.{Screens}
+use Rattle.words_commands.specs.Screens.{counted}
 
 -- the screens that a concealing receiver shows after frames
 abbrev pub concealed_screens : List Frame → Screens
-concealed_screens frames = screens_of (concealed_grids frames) (concealed_windows frames)
+concealed_screens frames = record { grids = concealed_grids frames; windows = concealed_windows frames }
 
 -- the line of frames that are missing before one: `lost N before F`; none where none is missing
 abbrev pub lost_line : ℕ → ℕ → List ℕ
@@ -24,10 +24,6 @@ next_concealed before frame =
     let frames = before ++ frame ∷ [] in
     lost_line (missing_before frames) (number_of_last frames) ++ changes_text (number_of_last frames) (concealed_screens before) (concealed_screens frames)
 
--- those of each frame
-abbrev pub concealed_changes : List Frame → List ℕ
-concealed_changes frames = texts_behind next_concealed [] frames
-
 -- `conceal` puts those of each frame, and then the number of frames that came
 abbrev pub conceal_output : List Frame → List ℕ
-conceal_output frames = counted concealed_changes frames
+conceal_output frames = counted next_concealed frames

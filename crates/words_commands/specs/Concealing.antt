@@ -1,6 +1,6 @@
 -- Between crates: the program's answer stands on none of these definitions.
 -- Words on their way through a concealing receiver.
-use Rattle.std.specs.Prelude.{◌≡◌, ◌≤◌, ℕ, List, length}
+use Rattle.std.specs.Prelude.{◌≡◌, ◌≤◌, ℕ, List, [], length}
 use Rattle.cc_conceal.specs.Concealers.{HasConcealed, concealed_frames}
 use Rattle.cdp_packets.specs.Packets.{Frame}
 use Rattle.grid_print.specs.Screens.{LookAlike}
@@ -9,7 +9,8 @@ use Rattle.grid_print.specs.declared.shown.Shown.{Shown}
 use Rattle.words_reading.specs.CaptionChannel.{caption_channel}
 use Rattle.words_files.specs.FramesOf.{AreFramesOf}
 use Rattle.words_files.specs.Offences.{IsUnoffending}
-use Rattle.words_commands.specs.ConcealedScreens.{concealed_changes, concealed_screens}
+use Rattle.words_commands.specs.ConcealedScreens.{concealed_screens, next_concealed}
+use Rattle.words_commands.specs.Screens.{texts_behind}
 use Rattle.words_commands.specs.declared.concealing.Concealing.{Concealing}
 
 -- the concealed screens of frames were shown last
@@ -29,4 +30,4 @@ pub record HasJudgedConcealed (bytes text : List ℕ) (concealing : Concealing) 
   pub frames : List Frame
   pub frames_are : AreFramesOf caption_channel frames bytes
   pub shown : ShownLast frames concealing.shown
-  pub text_is : text ≡ concealed_changes frames
+  pub text_is : text ≡ texts_behind next_concealed [] frames

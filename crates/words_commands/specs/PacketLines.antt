@@ -8,36 +8,28 @@ use Rattle.cdp_packets.specs.PacketTriplets.{packet_triplets}
 use Rattle.cdp_packets.specs.Packets.{Frame}
 use Rattle.line21_codes.specs.Reading.{code_of}
 use Rattle.line21_codes.specs.declared.channels.FieldNumber.TheVariants.{Two}
-use Rattle.line21_codes.specs.declared.pairs.Pair.{Pair}
 use Rattle.words_files.specs.Received.{field_pairs, received_pairs}
 use Rattle.xds_packets.specs.Reading.{packets_behind, packets_within}
 use Rattle.xds_packets.specs.declared.packets.XdsPacket.{XdsPacket}
-use Rattle.words_commands.specs.Screens.{counted, texts_behind}
+use Rattle.words_commands.specs.Screens.{counted}
 
 -- the line of a packet that ends in a frame: `frame F class C type T TEXT`
 abbrev pub packet_line : ℕ → XdsPacket → List ℕ
 packet_line frame packet =
     text (codes "frame " ∷ decimal frame ∷ codes " class " ∷ decimal packet.class ∷ codes " type " ∷ decimal packet.kind ∷ codes " " ∷ packet.text ∷ codes "\n" ∷ [])
 
--- the packets that end in pairs of field 2, after those before
-abbrev pub ended_in : List Pair → List Pair → List XdsPacket
-ended_in before pairs = packets_behind (map code_of before) (map code_of pairs)
-
--- the packets that end in a frame, after others
+-- the packets that end in a frame's pairs of field 2, after other frames
 abbrev pub frame_packets : List Frame → Frame → List XdsPacket
-frame_packets before frame = ended_in (received_pairs Two before) (field_pairs Two (packet_triplets frame))
+frame_packets before frame =
+    packets_behind (map code_of (received_pairs Two before)) (map code_of (field_pairs Two (packet_triplets frame)))
 
 -- the lines of these
 abbrev pub next_packets : List Frame → Frame → List ℕ
 next_packets before frame = flat_map (packet_line (length before)) (frame_packets before frame)
 
--- those of each frame
-abbrev pub packet_lines : List Frame → List ℕ
-packet_lines frames = texts_behind next_packets [] frames
-
 -- `xds-show` puts those of each frame, and then the number of frames
 abbrev pub xds_show_output : List Frame → List ℕ
-xds_show_output frames = counted packet_lines frames
+xds_show_output frames = counted next_packets frames
 
 -- the packets of frames after others, frame by frame
 abbrev pub packets_in : List Frame → List Frame → List XdsPacket

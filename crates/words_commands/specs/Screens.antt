@@ -17,21 +17,13 @@ texts_behind text_of before (frame ∷ frames) = text_of before frame ++ texts_b
 abbrev pub next_changes : List Frame → Frame → List ℕ
 next_changes before frame = changes_text (length before) (received_screens before) (received_screens (before ++ frame ∷ []))
 
--- the changed screens of each frame
-abbrev pub changes_of : List Frame → List ℕ
-changes_of frames = texts_behind next_changes [] frames
-
--- the line of the number of frames: `frames N`
-abbrev pub frames_line : ℕ → List ℕ
-frames_line count = text (codes "frames " ∷ decimal count ∷ codes "\n" ∷ [])
-
--- the changes of frames, and then their number
-abbrev pub counted : (List Frame → List ℕ) → List Frame → List ℕ
-counted changes frames = changes frames ++ frames_line (length frames)
+-- the text that stands for each frame, and then the line of the number of frames: `frames N`
+abbrev pub counted : (List Frame → Frame → List ℕ) → List Frame → List ℕ
+counted text_of frames = texts_behind text_of [] frames ++ text (codes "frames " ∷ decimal (length frames) ∷ codes "\n" ∷ [])
 
 -- `decode` puts the changed screens of each frame, and then the number of frames
 abbrev pub decode_output : List Frame → List ℕ
-decode_output frames = counted changes_of frames
+decode_output frames = counted next_changes frames
 
 -- `show` puts all screens of the frame of this number, once it is whole
 abbrev pub show_output : ℕ → List Frame → List ℕ

@@ -1,5 +1,5 @@
 ghost use Rattle.command_base.specs.Ends.{ends};
-ghost use Rattle.words_commands.specs.ConcealedScreens.{concealed_changes};
+ghost use Rattle.words_commands.specs.ConcealedScreens.{next_concealed};
 ghost use Rattle.words_commands.specs.Verdicts.{ChangesVerdict};
 ghost use Rattle.command_base.specs.Realises.{RealisesLeaving};
 
@@ -16,7 +16,7 @@ use words_reading::read_words;
 /// are missing before it, if some are, and the screens that changed, with the number of the frame by the counters; and after the last
 /// one the number of frames that came.
 pub fn run_conceal<M: Source, O: Sink>(alloc: Global, input: &mut M, out: &mut O) -> Status
-    ensures { RealisesLeaving (ChangesVerdict concealed_changes)
+    ensures { RealisesLeaving (ChangesVerdict next_concealed)
         (ends (M.left input.old) (M.faults input.old) (O.written out.old) (O.faults out.old))
         (ends (M.left input.new) (M.faults input.new) (O.written out.new)
         (O.faults out.new)) result }

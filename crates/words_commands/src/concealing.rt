@@ -7,7 +7,8 @@ ghost use Rattle.text_output.specs.Pages.{Adds};
 ghost use Rattle.words_files.specs.FramesOf.{AreFramesOf};
 ghost use Rattle.words_reading.specs.FrameTexts.{FramesHalt, FramesSay, MakesFrame};
 ghost use Rattle.words_reading.specs.Judging.{StopCause};
-ghost use Rattle.words_commands.specs.ConcealedScreens.{concealed_changes, lost_line};
+ghost use Rattle.words_commands.specs.ConcealedScreens.{lost_line, next_concealed};
+ghost use Rattle.words_commands.specs.Screens.{texts_behind};
 ghost use Rattle.words_commands.specs.Concealing.{HasJudgedConcealed, HasReadConcealed, ShownLast};
 
 use cc_base::{Put, Refusal, Sink};
@@ -30,10 +31,11 @@ impl Concealing {
         ensures concealer { self.new.concealer ≡ self.old.concealer }
         ensures makes { (start : Option (List ℕ)) (bytes : List ℕ) (frames : List Frame)
             (last : Frame) → ShownLast frames self.old.shown
-            → IsGathered start (O.written out.old) (held_of text.old) (concealed_changes frames)
+            → IsGathered start (O.written out.old) (held_of text.old)
+            (texts_behind next_concealed [] frames)
             → HasConcealed bytes self.old.concealer
             → AreFramesOf caption_channel (frames ++ last ∷ []) bytes
-            → MakesFrame concealed_changes (λ frames. Unit {0}) ShownLast
+            → MakesFrame (texts_behind next_concealed []) (λ frames. Unit {0}) ShownLast
             (λ frames last never. ⊥) start (O.written out.new)
             (held_of text.new) frames last self.new.shown result }
         ensures cause { StopCause (O.faults out.old) (O.faults out.new) result }
@@ -78,9 +80,10 @@ impl Judge for Concealing {
 
     ghost HasJudged = { λ given. HasJudgedConcealed };
 
-    ghost Says = { λ given. FramesSay concealed_changes (λ frames. Unit {0}) };
+    ghost Says = { λ given. FramesSay (texts_behind next_concealed []) (λ frames. Unit {0}) };
 
-    ghost Halts = { λ given never. FramesHalt concealed_changes (λ frames. Unit {0}) (λ frames last. ⊥) };
+    ghost Halts = { λ given never.
+        FramesHalt (texts_behind next_concealed []) (λ frames. Unit {0}) (λ frames last. ⊥) };
 
     fn step<O: Sink>(
         &mut self,

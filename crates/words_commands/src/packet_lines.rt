@@ -1,13 +1,15 @@
-ghost use Rattle.std.specs.Prelude.{◌++◌, List};
+ghost use Rattle.std.specs.Prelude.{◌++◌, [], List, map};
 ghost use Rattle.std.specs.List.{flat_map};
 ghost use Rattle.cdp_packets.specs.Packets.{Frame};
+ghost use Rattle.line21_codes.specs.Reading.{code_of};
 ghost use Rattle.line21_codes.specs.declared.channels.FieldNumber.TheVariants.{Two};
 ghost use Rattle.line21_codes.specs.declared.pairs.Pair.{Pair};
 ghost use Rattle.text_output.specs.Pages.{Adds, WritesSome, page};
 ghost use Rattle.words_files.specs.Received.{received_pairs};
 ghost use Rattle.xds_packets.specs.Reader.{HasRead};
-ghost use Rattle.xds_packets.specs.Reading.{listed};
-ghost use Rattle.words_commands.specs.PacketLines.{ended_in, packet_line, packet_lines};
+ghost use Rattle.xds_packets.specs.Reading.{listed, packets_behind};
+ghost use Rattle.words_commands.specs.Screens.{texts_behind};
+ghost use Rattle.words_commands.specs.PacketLines.{next_packets, packet_line};
 
 use cc_base::{Put, Sink};
 use line21_codes::Pair;
@@ -34,7 +36,8 @@ impl PacketLines {
             → HasRead (before ++ pairs.now) self.new.reader }
         ensures writes { (before : List Pair) → HasRead before self.old.reader
             → Adds O.written O.faults text.old out.old text.new out.new
-            (flat_map (packet_line frame) (ended_in before pairs.now)) }
+            (flat_map (packet_line frame)
+            (packets_behind (map code_of before) (map code_of pairs.now))) }
         ensures some { WritesSome (page text.old (O.written out.old) (O.faults out.old))
             (page text.new (O.written out.new) (O.faults out.new)) }
     {
@@ -75,7 +78,7 @@ impl PerFrame for PacketLines {
 
     ghost Given = { Unit {0} };
 
-    ghost text_of = { λ given. packet_lines };
+    ghost text_of = { λ given. texts_behind next_packets [] };
 
     ghost AreFit = { λ given frames. Unit {0} };
 

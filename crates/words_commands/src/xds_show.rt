@@ -1,5 +1,5 @@
 ghost use Rattle.command_base.specs.Ends.{ends};
-ghost use Rattle.words_commands.specs.PacketLines.{packet_lines};
+ghost use Rattle.words_commands.specs.PacketLines.{next_packets};
 ghost use Rattle.words_commands.specs.Verdicts.{ChangesVerdict};
 ghost use Rattle.command_base.specs.Realises.{RealisesLeaving};
 
@@ -13,7 +13,7 @@ use xds_packets::XdsReader;
 
 /// Reads a words file, and puts the packets of extended data that end in each frame, and after the last one the number of frames.
 pub fn run_xds_show<M: Source, O: Sink>(alloc: Global, input: &mut M, out: &mut O) -> Status
-    ensures { RealisesLeaving (ChangesVerdict packet_lines)
+    ensures { RealisesLeaving (ChangesVerdict next_packets)
         (ends (M.left input.old) (M.faults input.old) (O.written out.old) (O.faults out.old))
         (ends (M.left input.new) (M.faults input.new) (O.written out.new)
         (O.faults out.new)) result }

@@ -15,7 +15,7 @@ use Rattle.cue_list_commands.specs.Carrying.{channel_packet_of, frame_bytes}
 use Rattle.cue_list_commands.specs.Planned.{Placement, columns_of}
 use Rattle.services_files.specs.CaptionChannel.{caption_channel}
 use Rattle.words_commands.proofs.VerdictLemmas.{changes_one}
-use Rattle.words_commands.specs.ConcealedScreens.{conceal_output, concealed_changes}
+use Rattle.words_commands.specs.ConcealedScreens.{conceal_output, next_concealed}
 use Rattle.words_commands.specs.Verdicts.{ChangesVerdict}
 use Rattle.words_files.proofs.FramesOfLemmas.{file_frames, frames_of_once}
 use Rattle.words_files.specs.Offences.{IsFileUnder}
@@ -49,7 +49,7 @@ delivered_size list placed (k ∷ came) roomy =
     omega (arith, here, alone, rest, all)
 
 -- what `conceal` makes of a file with Ok is what is shown of its frames
-text_made : (bytes text : List ℕ) (frames : List Frame) → IsFileUnder caption_channel frames bytes → ChangesVerdict concealed_changes bytes status.Ok text
+text_made : (bytes text : List ℕ) (frames : List Frame) → IsFileUnder caption_channel frames bytes → ChangesVerdict next_concealed bytes status.Ok text
     → text ≡ conceal_output frames
 text_made bytes text frames file (inl (few, (others, again, is))) =
     is
@@ -72,13 +72,13 @@ delivered_answered bytes list placed came old new answer accepted delivered belo
     let few : length came ≤ list.frames = all_came list.frames came delivered below in
     let size = delivered_size list placed came (frames_roomy list placed formed accepted.good.ruled (λ service. accepted.placement (Service service))) in
     by_answer file
-    (exact (λ aside. ChangesVerdict concealed_changes) (changes_one concealed_changes) [] words status.Ok (conceal_output frames) no_side no_side old new answer
+    (exact (λ aside. ChangesVerdict next_concealed) (changes_one next_concealed) [] words status.Ok (conceal_output frames) no_side no_side old new answer
     (λ fault. fault)
     (inl (omega (arith, most, few, size), (frames, file, refl))) no_side_read read answered)
   where
     by_answer : IsFileUnder caption_channel (delivered_packets list placed came) (delivered_bytes list placed came)
         → ((answer ≡ status.Memory) × Keeps old.written new.written)
-        ⊎ ((answer ≡ status.Ok) × PutsSaid (λ aside. ChangesVerdict concealed_changes) [] (delivered_bytes list placed came) old new status.Ok)
+        ⊎ ((answer ≡ status.Ok) × PutsSaid (λ aside. ChangesVerdict next_concealed) [] (delivered_bytes list placed came) old new status.Ok)
         → IsConcealed (delivered_packets list placed came) old new answer
     by_answer file (inl memory) = inr memory.0
     by_answer file (inr (ok, (text, says, put))) =

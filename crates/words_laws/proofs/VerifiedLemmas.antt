@@ -1,5 +1,5 @@
 -- What is built of an accepted list, with packets or without, is verified against it.
-use Rattle.std.proofs.Common.{◌≤◌, ◌*◌, ◌<◌, ℕ, length, List, arith}
+use Rattle.std.proofs.Common.{◌≤◌, ◌*◌, ◌<◌, ℕ, length, arith}
 use Rattle.cue_lists.specs.Listing.{IsFormed, Listing}
 use Rattle.cue_lists.specs.declared.lane.Lane.TheVariants.{Service}
 use Rattle.cue_list_commands.specs.Carried.{AreRoomy}

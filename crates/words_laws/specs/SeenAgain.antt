@@ -16,7 +16,7 @@ use Rattle.command_base.specs.declared.status.Status.TheVariants as status
 use Rattle.cue_list_commands.specs.Accepted.{IsAccepted}
 use Rattle.cue_list_commands.specs.Output.{build_output}
 use Rattle.command_base.specs.Realises.{RealisesAlone}
-use Rattle.words_commands.specs.ConcealedScreens.{conceal_output, concealed_changes}
+use Rattle.words_commands.specs.ConcealedScreens.{conceal_output, next_concealed}
 use Rattle.words_commands.specs.Verdicts.{ChangesVerdict}
 use Rattle.lost.specs.Concealer.{Concealer}
 use Rattle.lost.specs.Concealers.{HasConcealed, concealed_frames, receiver_of}
@@ -54,5 +54,5 @@ IsConcealed frames old new answer = ((answer ≡ status.Ok) × Appends old.writt
 abbrev pub DeliveredIsConcealed : Type 0
 DeliveredIsConcealed = (bytes : List ℕ) (list : Listing) (placed : Placement) (came : List ℕ) (old new : Ends) (answer : Status)
     → IsAccepted bytes list placed → AreDelivered came → AllByRecursion (λ (frame : ℕ). frame < list.frames) came
-    → IsReadOf (delivered_bytes list placed came) old new → RealisesAlone (ChangesVerdict concealed_changes) old new answer
+    → IsReadOf (delivered_bytes list placed came) old new → RealisesAlone (ChangesVerdict next_concealed) old new answer
     → IsConcealed (delivered_packets list placed came) old new answer

@@ -4,19 +4,19 @@ use Rattle.words_commands.specs.Verdicts.{ChangesVerdict}
 use Rattle.words_reading.proofs.FrameLemmas.{nothing_read}
 use Rattle.words_reading.proofs.UnderwayLemmas.{nothing_put}
 use Rattle.words_commands.proofs.AnswerLemmas.{changes_done, changes_stopped, changes_unwritten, ended_counted, nothing_decoded}
-use Rattle.words_commands.specs.Screens.{changes_of}
+use Rattle.words_commands.specs.Screens.{next_changes, texts_behind}
 use Rattle.words_commands.proofs.decode.run_decode.Goals as goal
 
 pub returns-in_default : goal.returns-in_default
-returns-in_default g c = no_memory (ChangesVerdict changes_of) _ _ refl
+returns-in_default g c = no_memory (ChangesVerdict next_changes) _ _ refl
 
 pub read_words-requires : goal.read_words-requires
 read_words-requires g c = nothing_read c.in-Ok-new.frames c.in-Ok-new.ensures.received
 
 pub returns-in-Done : goal.returns-in-Done
 returns-in-Done g c =
-    changes_done changes_of _ _ _ _ _ _ _ _ _ _ c.count.result
-    (ended_counted changes_of _ c.read_words.new.judge c.count.result _ _
+    changes_done next_changes _ _ _ _ _ _ _ _ _ _ c.count.result
+    (ended_counted (texts_behind next_changes []) _ c.read_words.new.judge c.count.result _ _
     (c.in-Ok-read_words.ensures.words tt (g.O.Sink.written c.args.out.now) [] (nothing_decoded c.in-Ok-new.frames c.in-Ok.shown c.in-Ok-new.ensures.received c.in-Ok-new.ensures.maker
     c.in-Ok.ensures.grids c.in-Ok.ensures.windows) (nothing_put (g.O.Sink.written c.args.out.now)))
     c.count.ensures)
@@ -24,8 +24,8 @@ returns-in-Done g c =
 
 pub returns-in-Ok-read_words : goal.returns-in-Ok-read_words
 returns-in-Ok-read_words g c =
-    changes_unwritten changes_of _ _ _ _ _ _ _ _ _ _ c.count.result
-    (ended_counted changes_of _ c.read_words.new.judge c.count.result _ _
+    changes_unwritten next_changes _ _ _ _ _ _ _ _ _ _ c.count.result
+    (ended_counted (texts_behind next_changes []) _ c.read_words.new.judge c.count.result _ _
     (c.in-Ok-read_words.ensures.words tt (g.O.Sink.written c.args.out.now) [] (nothing_decoded c.in-Ok-new.frames c.in-Ok.shown c.in-Ok-new.ensures.received c.in-Ok-new.ensures.maker
     c.in-Ok.ensures.grids c.in-Ok.ensures.windows) (nothing_put (g.O.Sink.written c.args.out.now)))
     c.count.ensures)
@@ -33,7 +33,7 @@ returns-in-Ok-read_words g c =
 
 pub returns : goal.returns
 returns g c =
-    changes_stopped changes_of _ _ c.in-Err.stop _
+    changes_stopped next_changes _ _ c.in-Err.stop _
     (c.in-Err.ensures.words tt (g.O.Sink.written c.args.out.now) [] (nothing_decoded c.in-Ok-new.frames c.in-Ok.shown c.in-Ok-new.ensures.received c.in-Ok-new.ensures.maker
     c.in-Ok.ensures.grids c.in-Ok.ensures.windows) (nothing_put (g.O.Sink.written c.args.out.now)))
     c.plain_status.ensures

@@ -3,8 +3,8 @@ use Rattle.std.proofs.lemmas.List.{take_all, take_more}
 use Rattle.std.specs.List.{flat_map}
 use Rattle.text_output.proofs.PageLemmas.{some_none, some_then, writes_none, writes_same}
 use Rattle.xds_packets.specs.Reader.{HasRead}
-use Rattle.words_commands.specs.PacketLines.{ended_in, packet_line}
-use Rattle.words_commands.proofs.PacketLinesLemmas.{packet_written, read_more}
+use Rattle.words_commands.specs.PacketLines.{packet_line}
+use Rattle.words_commands.proofs.PacketLinesLemmas.{ended_in, packet_written, read_more}
 use Rattle.words_commands.proofs.packet_lines.PacketLines.write_packets.Goals as goal
 
 pub loop-pair-init : goal.loop-pair-init

@@ -3,7 +3,8 @@ use Rattle.std.specs.List.{flat_map}
 use Rattle.line21_codes.specs.declared.pairs.Pair.{Pair}
 use Rattle.text_output.specs.Pages.{Writes, WritesSome, page}
 use Rattle.xds_packets.specs.Reader.{HasRead}
-use Rattle.words_commands.specs.PacketLines.{ended_in, packet_line}
+use Rattle.words_commands.specs.PacketLines.{packet_line}
+use Rattle.words_commands.proofs.PacketLinesLemmas.{ended_in}
 use Rattle.words_commands.proofs.packet_lines.PacketLines.write_packets.Given as goal
 
 -- the pairs so far are read, and the lines of the packets that ended in them written
