@@ -1,5 +1,5 @@
 -- The list of a load is accepted: it is read as a programme, or memory ran out, and what came of the programme is the summary.
-use Rattle.std.proofs.Common.{◌≡◌, ◌≢◌, ℕ, ◌≤◌, List, [], length, Option, Some, Err, refl, sym, subst, arith}
+use Rattle.std.proofs.Common.{◌≡◌, ◌≢◌, ◌∙◌, ap, ℕ, ◌≤◌, List, [], length, Option, Some, Err, refl, sym, subst, arith}
 use Rattle.command_base.specs.WholeInput.{ReadsInput}
 use Rattle.command_base.specs.declared.status.Status.{Status}
 use Rattle.command_base.specs.declared.status.Status.TheVariants as status
@@ -18,7 +18,7 @@ use Rattle.load_commands.specs.LoadList.{load_list, most_load}
 use Rattle.load_commands.proofs.RuledLemmas.{list_ruled}
 use Rattle.load_commands.proofs.WrittenLemmas.{list_written}
 use Rattle.load_commands.proofs.LoadRoomLemmas.{list_placed}
-use Rattle.load_commands.specs.LoadOutput.{IsSummaryOf, change_count}
+use Rattle.load_commands.specs.LoadOutput.{AreLoadLines, change_count, summary_text}
 use Rattle.load_commands.specs.Receiving.{AreAllWhole, AreWhole, HasReceivedColumns, IsSendable}
 use Rattle.load_commands.specs.declared.reception.Reception.{Reception}
 use Rattle.load_commands.proofs.WholeLemmas.{frames_whole}
@@ -81,7 +81,7 @@ module _ (count : ℕ) (some : 1 ≤ count) (most : count ≤ most_load) where
   pub summary_is : (programme : Programme Plan) (reception : Reception) → IsProgrammeOf (list_bytes (load_list count)) programme
       → ((columns : Columns) → GivesFrom columns 0 programme.frames → AreAllWhole programme.rate columns (frames_left programme.frames)
       → HasReceivedColumns programme.rate columns (frames_left programme.frames) reception)
-      → IsSummaryOf count (record { cues = count; frames = (load_list count).frames; bytes = reception.bytes; changes = reception.changes })
+      → AreLoadLines count (summary_text (record { cues = count; frames = (load_list count).frames; bytes = reception.bytes; changes = reception.changes }))
   summary_is programme reception is takes =
       let placed = list_placed count some most in
       let once = accepted_once _ is.made.list (load_list count) is.made.placed placed.0 is.accepted list_accepted in
@@ -90,8 +90,7 @@ module _ (count : ℕ) (some : 1 ≤ count) (most : count ≤ most_load) where
       record {
         placed = placed.0;
         placement = placed.1;
-        cues = refl;
-        frames = refl;
-        bytes = all.0;
-        changes = all.1;
+        text_is =
+            ap (λ (bytes : ℕ). summary_text (record { cues = count; frames = (load_list count).frames; bytes = bytes; changes = reception.changes })) all.0
+            ∙ ap (λ (changes : ℕ). summary_text (record { cues = count; frames = (load_list count).frames; bytes = length (build_output (load_list count) placed.0); changes = changes })) all.1;
       }

@@ -11,10 +11,19 @@ use Rattle.cue_types.specs.Cues.{IsCueFormed, IsOfKind}
 use Rattle.cue_types.specs.Line21Cues.{IsLine21Run}
 use Rattle.cue_types.specs.Listing.{IsFormed}
 use Rattle.cue_types.specs.Shares.{IsShare}
+use Rattle.cue_types.specs.declared.cue.Kind.{Kind}
+use Rattle.cue_types.specs.declared.cue.Run.{Run}
 use Rattle.cue_types.specs.Windows.{IsWindow, IsWindowRun}
 use Rattle.cue_types.specs.declared.list.Share.{Share}
-use Rattle.load_commands.specs.LoadList.{letter, line21_run, load_cue, load_kind, load_list, load_run, load_text, load_window, most_load}
-use Rattle.load_commands.proofs.LetterLemmas.{letter_coded, letter_spelled}
+use Rattle.load_commands.specs.LoadList.{line21_run, load_cue, load_list, load_shown, load_text, load_window, most_load}
+use Rattle.load_commands.proofs.LetterLemmas.{letter, letter_coded, letter_spelled}
+
+-- how a caption is shown, and its one run
+abbrev pub load_kind : ℕ → ℕ → Kind
+load_kind k turn = (load_shown k turn).0
+
+abbrev pub load_run : ℕ → ℕ → Run
+load_run k turn = (load_shown k turn).1
 
 -- what holds of each letter, holds of each of a text
 of_each : (P : ℕ → Type 0) → ((n : ℕ) → P n) → (xs : List ℕ) → All P xs

@@ -5,7 +5,10 @@ use Rattle.line21_codes.specs.declared.characters.Spelling.{Spelling}
 use Rattle.line21_codes.specs.declared.characters.Spelling.TheVariants.{Basic, Special, Extended}
 use Rattle.line21_codes.proofs.Tables.{all_below, at_each}
 use Rattle.dtvcc_codes.specs.CharacterSpellings.{dtvcc_spelling as dtv_spelling_of}
-use Rattle.load_commands.specs.LoadList.{letter}
+
+-- the capital letter of a number
+abbrev pub letter : ℕ → ℕ
+letter n = 65 + n % 26
 
 -- a spelling by a basic character
 abbrev pub is_basic : Option Spelling → Bool

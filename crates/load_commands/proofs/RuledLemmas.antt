@@ -12,7 +12,8 @@ use Rattle.cue_lists.specs.Rules.{IsRuled}
 use Rattle.cue_lists.proofs.RulesSaid.{ruled_from_lanes}
 use Rattle.cue_lists.proofs.ServiceRules.{HidesWindow}
 use Rattle.cue_lists.specs.Rules.Sentences.{AreInSequence, AreInService, ComesAfter, IsOnSlots, IsSound, IsSoundWindow, KeepsClear}
-use Rattle.load_commands.specs.LoadList.{load_cue, load_kind, load_list, load_run}
+use Rattle.load_commands.proofs.FormedLemmas.{load_kind, load_run}
+use Rattle.load_commands.specs.LoadList.{load_cue, load_list}
 
 -- caption k, as that of a turn
 abbrev turned : ℕ → ℕ → Cue

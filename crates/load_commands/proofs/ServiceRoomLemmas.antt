@@ -17,7 +17,8 @@ use Rattle.lanes.specs.Chunks.{ServiceChunk}
 use Rattle.lanes.proofs.DelayLemmas.{delay_is_of}
 use Rattle.lanes.proofs.PlaceLemmas.{events_few}
 use Rattle.cue_list_commands.specs.Planned.{captions_in, chunks_in, service_lane_of}
-use Rattle.load_commands.specs.LoadList.{load_cue, load_kind, load_list, load_window}
+use Rattle.load_commands.proofs.FormedLemmas.{load_kind}
+use Rattle.load_commands.specs.LoadList.{load_cue, load_list, load_window}
 use Rattle.load_commands.proofs.FrameRoomLemmas.{AreBefore, before_later, HasFramesBehind, IsUndelayed, IsWithin, one_each}
 use Rattle.load_commands.proofs.UnitCountLemmas.{turned, window_units_count, window_units_small}
 

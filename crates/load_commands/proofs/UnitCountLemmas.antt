@@ -26,9 +26,9 @@ use Rattle.line21_author.specs.CueUnits.{unit_of, units_of}
 use Rattle.line21_author.specs.TextCodes.{packed, text_codes}
 use Rattle.dtvcc_author.specs.CueUnits as window
 use Rattle.dtvcc_author.specs.WindowCommands.{character_commands, definition_of}
-use Rattle.load_commands.specs.LoadList.{letter, line21_run, load_kind, load_run, load_text, load_window}
-use Rattle.load_commands.proofs.FormedLemmas.{of_letters}
-use Rattle.load_commands.proofs.LetterLemmas.{is_basic, letter_basic}
+use Rattle.load_commands.specs.LoadList.{line21_run, load_text, load_window}
+use Rattle.load_commands.proofs.FormedLemmas.{load_kind, load_run, of_letters}
+use Rattle.load_commands.proofs.LetterLemmas.{is_basic, letter, letter_basic}
 
 -- a caption of a load, as that of a turn
 abbrev pub turned : ℕ → ℕ → Cue

@@ -1,16 +1,14 @@
 -- Of a number of captions `load` makes one status, and a run that puts its lines realises it.
-use Rattle.std.proofs.Common.{◌≡◌, ◌∙◌, ◌≤◌, length, refl, sym, ℕ, List, [], Option, Some}
+use Rattle.std.proofs.Common.{◌≡◌, ◌∙◌, ◌≤◌, refl, sym, ℕ, List, [], Option, Some}
 use Rattle.cc_base.specs.Streams.{Puts, Rose}
 use Rattle.cc_base.specs.declared.streams.Put.TheVariants as put
 use Rattle.command_base.specs.Ends.{ends}
 use Rattle.command_base.specs.Exact.{HasVerdict, IsFault, IsOne}
 use Rattle.command_base.specs.declared.status.Status.{Status}
 use Rattle.command_base.specs.declared.status.Status.TheVariants as status
-use Rattle.load_commands.specs.LoadOutput.{IsSummaryOf, change_count, summary_text}
-use Rattle.load_commands.specs.LoadList.{load_list, most_load}
+use Rattle.load_commands.specs.LoadOutput.{AreLoadLines, summary_text}
+use Rattle.load_commands.specs.LoadList.{most_load}
 use Rattle.load_commands.proofs.LoadRoomLemmas.{list_placed}
-use Rattle.cue_list_commands.specs.Output.{built_packets, list_framing}
-use Rattle.cue_list_commands.specs.Framing.{words_of}
 use Rattle.load_commands.specs.LoadVerdict.{LoadVerdict}
 use Rattle.load_commands.specs.declared.summary.Summary.{Summary}
 use Rattle.command_base.specs.Realises.{RealisesLeaving}
@@ -23,23 +21,16 @@ load_ok count input _ text plain is = absurd is
 pub load_one : (count : ℕ) → IsOne (λ aside. LoadVerdict count)
 load_one count aside input one other text more plain told is at = load_ok count input one text plain is ∙ sym (load_ok count input other more told at)
 
-pub load_done : (count reads writes still : ℕ) (old new : Option (List ℕ)) (summary : Summary) → IsSummaryOf count summary → Puts old new put.Done (summary_text summary) → still ≡ writes
+pub load_done : (count reads writes still : ℕ) (old new : Option (List ℕ)) (summary : Summary) → AreLoadLines count (summary_text summary) → Puts old new put.Done (summary_text summary) → still ≡ writes
     → RealisesLeaving (LoadVerdict count) (ends (Some []) reads old writes) (ends (Some []) reads new still) status.Ok
 load_done count reads writes still old new summary is puts kept =
-    ((refl, record { aside = refl; reads = refl; writes = kept }, (refl, (summary_text summary, (summary, is, refl), puts))), λ memory. cc)
+    ((refl, record { aside = refl; reads = refl; writes = kept }, (refl, (summary_text summary, is, puts))), λ memory. cc)
 
-pub load_failed : (count reads writes still : ℕ) (old new : Option (List ℕ)) (summary : Summary) → IsSummaryOf count summary → Puts old new put.Failed (summary_text summary)
+pub load_failed : (count reads writes still : ℕ) (old new : Option (List ℕ)) (summary : Summary) → AreLoadLines count (summary_text summary) → Puts old new put.Failed (summary_text summary)
     → Rose writes still → RealisesLeaving (LoadVerdict count) (ends (Some []) reads old writes) (ends (Some []) reads new still) status.WriteFault
-load_failed count reads writes still old new summary is puts rose = ((refl, refl, rose, (summary_text summary, (summary, is, refl), puts)), λ memory. cc)
+load_failed count reads writes still old new summary is puts rose = ((refl, refl, rose, (summary_text summary, is, puts)), λ memory. cc)
 
 pub every_load : (count : ℕ) → 1 ≤ count → count ≤ most_load → HasVerdict (λ aside. LoadVerdict count)
 every_load count some most aside input bytes =
     let (placed, placement) = list_placed count some most in
-    let summary : Summary = record {
-      cues = count;
-      frames = (load_list count).frames;
-      bytes = length (words_of (list_framing (load_list count) placed));
-      changes = change_count [] (built_packets (load_list count) placed);
-    } in
-    let is : IsSummaryOf count summary = record { placed = placed; placement = placement; cues = refl; frames = refl; bytes = refl; changes = refl } in
-    (status.Ok, summary_text summary, λ fault. fault, (summary, is, refl))
+    (status.Ok, _, λ fault. fault, record { placed = placed; placement = placement; text_is = refl })

@@ -16,8 +16,9 @@ use Rattle.cue_form.specs.Spelling.{cue_records}
 use Rattle.cue_form.specs.Printing.{flexible_writer, list_bytes, record_bytes}
 use Rattle.cue_form.proofs.PrintedFacts.{records_of-bytes}
 use Rattle.load_commands.specs.LoadLaws.{IsListWritten}
-use Rattle.load_commands.specs.LoadList.{letter, load_cue, load_kind, load_list, load_run, load_text, most_load}
-use Rattle.load_commands.proofs.FormedLemmas.{list_formed, of_letters}
+use Rattle.load_commands.proofs.LetterLemmas.{letter}
+use Rattle.load_commands.specs.LoadList.{load_cue, load_list, load_text, most_load}
+use Rattle.load_commands.proofs.FormedLemmas.{list_formed, load_kind, load_run, of_letters}
 
 -- a field in quotes has each byte twice, at most, and the quotes
 escaped_most : (field : Field) → length (escaped flexible_writer field) ≤ 2 * length field

@@ -19,13 +19,10 @@ use Rattle.cue_types.specs.declared.cue.WinCue.{WinCue}
 abbrev pub most_load : ℕ
 most_load = 10000
 
--- the capital letter of a number, as they follow one another for ever: A is that of 0, and of 26
-abbrev pub letter : ℕ → ℕ
-letter n = 65 + n % 26
-
--- the text of the caption of number k, counted from 0: 20 letters
+-- the text of the caption of number k, counted from 0: 20 capital letters, the one at place j that of the number 7 k + 5 j, as A is that
+-- of 0, of 26, and so on
 abbrev pub load_text : ℕ → List ℕ
-load_text k = map (λ j. letter (7 * k + 5 * j)) (range_with_len 0 20)
+load_text k = map (λ j. 65 + (7 * k + 5 * j) % 26) (range_with_len 0 20)
 
 -- a run of line 21 in a row, from a column on, in a colour
 abbrev pub line21_run : ℕ → ℕ → Colour → List ℕ → Run
@@ -54,17 +51,11 @@ load_window k = record {
   attr = None;
 }
 
--- the kinds of captions take turns: how caption k is shown whose turn this is
-abbrev pub load_kind : ℕ → ℕ → Kind
-load_kind k zero = Pop Cc1
-load_kind k (suc zero) = Win (load_window k)
-load_kind k (suc (suc turn)) = Paint Cc3
-
--- and its one run, in a window a plain one at its head
-abbrev pub load_run : ℕ → ℕ → Run
-load_run k zero = line21_run 14 4 White (load_text k)
-load_run k (suc zero) = record { row = 0; col = 0; pen = Dtv false false; text = load_text k; colors = None }
-load_run k (suc (suc turn)) = line21_run 15 8 Yellow (load_text k)
+-- the kinds of captions take turns: how caption k is shown whose turn this is, and its one run, in a window a plain one at its head
+abbrev pub load_shown : ℕ → ℕ → Kind × Run
+load_shown k zero = (Pop Cc1, line21_run 14 4 White (load_text k))
+load_shown k (suc zero) = (Win (load_window k), record { row = 0; col = 0; pen = Dtv false false; text = load_text k; colors = None })
+load_shown k (suc (suc turn)) = (Paint Cc3, line21_run 15 8 Yellow (load_text k))
 
 -- caption k: it is shown two seconds after its LOAD, for three
 abbrev pub load_cue : ℕ → Cue
@@ -72,8 +63,8 @@ load_cue k = record {
   load = 90 * k;
   show = 90 * k + 60;
   hide = Some (90 * k + 150);
-  kind = load_kind k (k % 3);
-  runs = load_run k (k % 3) ∷ [];
+  kind = (load_shown k (k % 3)).0;
+  runs = (load_shown k (k % 3)).1 ∷ [];
 }
 
 -- the list of this many captions

@@ -25,12 +25,14 @@ summary_text summary =
     text (codes "cues " ∷ decimal summary.cues ∷ codes "\nframes " ∷ decimal summary.frames ∷ codes "\nbytes " ∷ decimal summary.bytes
     ∷ codes "\nchanges " ∷ decimal summary.changes ∷ codes "\n" ∷ [])
 
--- the summary of the list of this many captions, whose units stand in their earliest placement: its captions, its frames, the bytes that
--- `build` puts of it, and the changes of the frames that these words carry
-pub record IsSummaryOf (count : ℕ) (summary : Summary) : Type 0 where
+-- these are the lines of the list of this many captions, whose units stand in their earliest placement: of its captions, its frames, the
+-- bytes that `build` puts of it, and the changes of the frames that these words carry
+pub record AreLoadLines (count : ℕ) (text : List ℕ) : Type 0 where
   pub placed : Placement
   pub placement : IsListPlaced (load_list count) placed
-  pub cues : summary.cues ≡ count
-  pub frames : summary.frames ≡ (load_list count).frames
-  pub bytes : summary.bytes ≡ length (words_of (list_framing (load_list count) placed))
-  pub changes : summary.changes ≡ change_count [] (built_packets (load_list count) placed)
+  pub text_is : text ≡ summary_text (record {
+    cues = count;
+    frames = (load_list count).frames;
+    bytes = length (words_of (list_framing (load_list count) placed));
+    changes = change_count [] (built_packets (load_list count) placed);
+  })

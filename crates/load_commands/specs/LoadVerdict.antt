@@ -1,14 +1,9 @@
 -- Believed: the program's answer stands on these definitions.
 -- What `load` makes of a number of captions. The list is accepted, whatever the number: so nothing is refused. No input is read.
-use Rattle.std.specs.Prelude.{◌≡◌, ℕ, List}
+use Rattle.std.specs.Prelude.{ℕ, List}
 use Rattle.command_base.specs.declared.status.Status.{Status}
 use Rattle.command_base.specs.declared.status.Status.TheVariants as status
-use Rattle.load_commands.specs.LoadOutput.{IsSummaryOf, summary_text}
-use Rattle.load_commands.specs.declared.summary.Summary.{Summary}
-
--- these are the lines of the list of this many captions
-abbrev pub AreLoadLines : ℕ → List ℕ → Type 0
-AreLoadLines count text = (summary : Summary) × IsSummaryOf count summary × (text ≡ summary_text summary)
+use Rattle.load_commands.specs.LoadOutput.{AreLoadLines}
 
 -- `load`
 abbrev pub LoadVerdict : ℕ → List ℕ → Status → List ℕ → Type 0

@@ -1,5 +1,5 @@
 ghost use Rattle.std.specs.Prelude.{◌≡◌, ◌≤◌, ◌<◌, ◌+◌, ◌*◌, ◌%◌, IfOk};
-ghost use Rattle.load_commands.specs.LoadList.{letter, line21_run, load_cue, load_kind, load_list, load_run, load_text, most_load};
+ghost use Rattle.load_commands.specs.LoadList.{line21_run, load_cue, load_list, load_shown, load_text, most_load};
 
 use cc_base::Rate;
 use cue_types::{Cue, CueList, Head, Kind, Pen, Run, Runs, Share, Text, Version, WinCue};
@@ -67,7 +67,7 @@ fn load_cue(alloc: Global, number: u32) -> Result<Cue, AllocError>
 
 /// How the caption of a number is shown.
 fn load_kind(number: u32) -> Kind
-    ensures { result ≡ load_kind number (number % 3) }
+    ensures { result ≡ (load_shown number (number % 3)).0 }
 {
     match number % 3 {
         0 => Kind::Pop(Chan::Cc1),
@@ -92,7 +92,7 @@ fn load_kind(number: u32) -> Kind
 /// The one run of the caption of a number.
 fn load_run(alloc: Global, number: u32) -> Result<Run, AllocError>
     requires { number < most_load }
-    ensures { IfOk result (λ run. run ≡ load_run number (number % 3)) }
+    ensures { IfOk result (λ run. run ≡ (load_shown number (number % 3)).1) }
 {
     let text = load_text(alloc, number)?;
     Ok(match number % 3 {
@@ -142,7 +142,7 @@ fn load_text(alloc: Global, number: u32) -> Result<Text, AllocError>
 
 /// The capital letter of a number, as they follow one another for ever: A is that of 0, and of 26.
 fn letter(number: u32) -> char
-    ensures { result ≡ letter number }
+    ensures { result ≡ 65 + number % 26 }
 {
     char::from(b'A' + (number % 26) as u8)
 }

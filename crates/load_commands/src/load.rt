@@ -2,7 +2,7 @@ ghost use Rattle.std.specs.Prelude.{◌≤◌, ℕ, [], Some, IfOk};
 ghost use Rattle.command_base.specs.Ends.{ends};
 ghost use Rattle.command_base.specs.Realises.{RealisesLeaving};
 ghost use Rattle.load_commands.specs.LoadVerdict.{LoadVerdict};
-ghost use Rattle.load_commands.specs.LoadOutput.{IsSummaryOf};
+ghost use Rattle.load_commands.specs.LoadOutput.{AreLoadLines, summary_text};
 ghost use Rattle.load_commands.specs.LoadList.{most_load};
 
 use crate::load_list;
@@ -39,7 +39,7 @@ pub fn run_load<O: Sink>(alloc: Global, count: u32, out: &mut O) -> Status
 fn load(alloc: Global, count: u32) -> Result<Summary, AllocError>
     requires some { 1 ≤ count }
     requires most { count ≤ most_load }
-    ensures { IfOk result (IsSummaryOf count) }
+    ensures { IfOk result (λ summary. AreLoadLines count (summary_text summary)) }
 {
     let list = load_list(alloc, count)?;
     let mut text = SteadySource::new(print(alloc, &list)?);

@@ -1,6 +1,6 @@
 use Rattle.std.proofs.Common.{◌+◌, ◌*◌, arith}
 use Rattle.std.proofs.lemmas.List.FromFn.{map-range_with_len_more}
-use Rattle.load_commands.specs.LoadList.{letter}
+use Rattle.load_commands.proofs.LetterLemmas.{letter}
 use Rattle.load_commands.proofs.list.load_text.Goals as goal
 
 pub loop-place-preserved : goal.loop-place-preserved

@@ -1,6 +1,6 @@
 use Rattle.std.proofs.Common.{◌≡◌, ◌+◌, ◌*◌, map}
 use Rattle.std.specs.List.{range_with_len}
-use Rattle.load_commands.specs.LoadList.{letter}
+use Rattle.load_commands.proofs.LetterLemmas.{letter}
 use Rattle.load_commands.proofs.list.load_text.Given as goal
 
 -- the letters so far
