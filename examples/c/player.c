@@ -8,7 +8,8 @@
 /* More than all screens and windows together, each cell a run of its own, have as text. */
 #define TEXT_ROOM ((size_t)32 << 20)
 
-/* Draws what a frame changed. A player with a picture reads cells and windows instead: ccsuite_receiver_cell, ccsuite_receiver_window. */
+/* Draws what a frame changed. A player with a picture asks ccsuite_receiver_changed which channels and services did, and reads their cells and windows:
+ * ccsuite_receiver_grid, ccsuite_receiver_window, ccsuite_receiver_window_grid. */
 static uint32_t draw(ccsuite_receiver *receiver, uint8_t *text) {
     size_t written;
     uint32_t code = ccsuite_receiver_changes(receiver, text, TEXT_ROOM, &written);
