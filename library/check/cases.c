@@ -310,6 +310,7 @@ static void closed(void) {
     ccsuite_fed fed = {7, 7, 7, 7, {7, 7}};
     ccsuite_frame frame;
     ccsuite_cell cell;
+    ccsuite_changed changed;
     ccsuite_window window;
     ccsuite_window_cell wide;
     uint8_t packet[CCSUITE_PACKET_ROOM] = {0xEE}, text[1000];
@@ -321,6 +322,7 @@ static void closed(void) {
         CHECK(ccsuite_receiver_frame(&receiver, &frame) == CCSUITE_CLOSED && ccsuite_receiver_cell(&receiver, 1, 15, 0, &cell) == CCSUITE_CLOSED);
         CHECK(ccsuite_receiver_window(&receiver, 1, 0, &window) == CCSUITE_CLOSED);
         CHECK(ccsuite_receiver_window_cell(&receiver, 1, 0, 0, 0, &wide) == CCSUITE_CLOSED);
+        CHECK(ccsuite_receiver_changed(&receiver, &changed) == CCSUITE_CLOSED);
         CHECK(ccsuite_receiver_changes(&receiver, text, sizeof text, &written) == CCSUITE_CLOSED && written == 0);
         CHECK(ccsuite_receiver_screens(&receiver, text, sizeof text, &written) == CCSUITE_CLOSED && written == 0);
         CHECK(ccsuite_verifier_feed(&verifier, packet, 2, &fed) == CCSUITE_CLOSED && ccsuite_verifier_verdict(&verifier, &r) == CCSUITE_CLOSED);
@@ -338,6 +340,7 @@ static void closed(void) {
         CHECK(ccsuite_builder_next((ccsuite_builder *)&receiver, packet, sizeof packet, &written) == CCSUITE_CLOSED && written == 0);
         CHECK(ccsuite_receiver_feed((ccsuite_receiver *)&verifier, packet, 2, &fed) == CCSUITE_CLOSED && fed.used == 0);
         CHECK(ccsuite_receiver_frame((ccsuite_receiver *)&builder, &frame) == CCSUITE_CLOSED);
+        CHECK(ccsuite_receiver_changed((ccsuite_receiver *)&builder, &changed) == CCSUITE_CLOSED);
         CHECK(ccsuite_verifier_verdict((ccsuite_verifier *)&builder, &r) == CCSUITE_CLOSED);
         ccsuite_builder_close((ccsuite_builder *)&receiver);
         ccsuite_receiver_close((ccsuite_receiver *)&verifier);
@@ -558,6 +561,7 @@ static void refusals(void) {
     ccsuite_fed fed;
     ccsuite_frame frame;
     ccsuite_cell cell;
+    ccsuite_changed changed;
     ccsuite_packet packet;
     size_t written;
     CHECK(ccsuite_build(list, size, words, sizeof words, &r) == CCSUITE_OK);
@@ -582,6 +586,7 @@ static void refusals(void) {
     for (int n = 0; n < 30; n++) {
         TAKES_NONE(ccsuite_builder_next(&builder, out, sizeof out, &written));
         TAKES_NONE(ccsuite_receiver_feed(&receiver, out, written, &fed));
+        TAKES_NONE(ccsuite_receiver_changed(&receiver, &changed));
         TAKES_NONE(ccsuite_verifier_feed(&verifier, out, written, &fed));
     }
     TAKES_NONE(ccsuite_cc_data_from_words(words, 160, out, sizeof out, &written, &packet));
