@@ -13,6 +13,7 @@ use Rattle.cdp_packets.specs.Packets.{Frame}
 use Rattle.dtvcc_services.specs.Numbers.{IsService}
 use Rattle.dtvcc_windows.specs.Windows.{WindowState}
 use Rattle.caption_streams.specs.Changed.{HaveChanged}
+use Rattle.grid_print.specs.declared.changed.Changed.{Changed}
 use Rattle.caption_streams.specs.GridTexts.{all_text, changes_text}
 use Rattle.caption_streams.specs.Screens.{LookAlike}
 use Rattle.line21_codes.specs.declared.channels.Chan.{Chan}
