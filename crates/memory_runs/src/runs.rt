@@ -13,7 +13,7 @@ pub struct Ended {
     pub status: Status,
     /// The output.
     pub out: MemorySink,
-    /// The error output, which takes 200 bytes.
+    /// The error output, which takes 300 bytes.
     pub err: MemorySink,
 }
 
@@ -45,7 +45,7 @@ pub fn run_to_end(alloc: Global, given: Given<'_>) -> Result<Ended, AllocError>
         given.failing_side.to_vec(alloc)?,
     );
     let mut out = MemorySink::new(alloc, given.room, given.failing_puts.to_vec(alloc)?)?;
-    let mut err = MemorySink::new(alloc, 200, given.failing_line.to_vec(alloc)?)?;
+    let mut err = MemorySink::new(alloc, 300, given.failing_line.to_vec(alloc)?)?;
     let status = run(alloc, &words, &mut input, &mut side, &mut out, &mut err);
     Ok(Ended { status, out, err })
 }

@@ -35,7 +35,7 @@ fn verify_insert_dual_and_xds_name_a_side_file(rt: HostRuntime) -> Result<(), Fa
 #[test]
 fn a_word_that_is_not_utf_8_is_usage(rt: HostRuntime) -> Result<(), Fail> {
     let alloc = rt.alloc();
-    let mut err = MemorySink::new(alloc, 200, Vec::new(alloc))?;
+    let mut err = MemorySink::new(alloc, 300, Vec::new(alloc))?;
     let status = run_without_words(ErrorKind::InvalidData, &mut err);
     assert!(rt; status == Status::Usage);
     assert!(rt; err.bytes().starts_with(b"usage: ccsuite pairs|build|"));
