@@ -14,10 +14,12 @@
 
 #define PACKAGE "ccsuite"
 #define CAPTIONS "closedcaption/x-cea-708, format=(string){ cdp, cc_data }, framerate=(fraction)"
-/* frames a second, by the code of SMPTE ST 334-2 */
+/* by the code of SMPTE ST 334-2: frames a second, and the triplets of a frame */
 static const struct {
     gint num, den;
-} rates[] = {{0, 1}, {24000, 1001}, {24, 1}, {25, 1}, {30000, 1001}, {30, 1}, {50, 1}, {60000, 1001}, {60, 1}};
+    guint triplets;
+} rates[] = {{0, 1, 0},      {24000, 1001, 25}, {24, 1, 25}, {25, 1, 24},      {30000, 1001, 20},
+             {30, 1, 20},    {50, 1, 12},       {60000, 1001, 10}, {60, 1, 10}};
 
 static GstStaticPadTemplate list_template =
     GST_STATIC_PAD_TEMPLATE("src", GST_PAD_SRC, GST_PAD_ALWAYS, GST_STATIC_CAPS(CAPTIONS "{ 30000/1001, 30/1, 60000/1001, 60/1 }"));
@@ -237,10 +239,19 @@ static gboolean tell_verdict(GstCcsuiteCheck *self) {
     return tell(self, report.status, report.status == CCSUITE_OK ? "ok" : report.text, report.frame);
 }
 
-/* The words that carry a buffer's captions, the triplets of a frame or its distribution packet. Whether they are that. */
+/* The words of a frame's triplets, filled up with triplets that don't count: GStreamer may have left these out. Whether they are a frame's. */
+static gboolean words_of_cc_data(GstCcsuiteCheck *self, const GstMapInfo *map, guint8 *words, size_t *size) {
+    guint8 cc_data[CCSUITE_CC_DATA_SIZE];
+    guint8 *end = cc_data + map->size;
+    if (map->size > sizeof cc_data) return FALSE;
+    memcpy(cc_data, map->data, map->size);
+    for (guint at = map->size / 3; at < rates[self->rate].triplets; at++, end += 3) memcpy(end, "\xFA\0\0", 3);
+    return ccsuite_words_from_cc_data(cc_data, end - cc_data, self->rate, self->frames & 0xFFFF, words, CCSUITE_PACKET_ROOM, size) == CCSUITE_OK;
+}
+
+/* The words that carry a buffer's captions, in either format. Whether they are a frame's. */
 static gboolean words_of(GstCcsuiteCheck *self, const GstMapInfo *map, guint8 *words, size_t *size) {
-    guint counter = self->frames++ & 0xFFFF;
-    if (self->rate) return ccsuite_words_from_cc_data(map->data, map->size, self->rate, counter, words, CCSUITE_PACKET_ROOM, size) == CCSUITE_OK;
+    if (self->rate) return words_of_cc_data(self, map, words, size);
     return ccsuite_words_from_cdp(map->data, map->size, words, CCSUITE_PACKET_ROOM, size) == CCSUITE_OK;
 }
 
@@ -257,8 +268,9 @@ static GstFlowReturn check_transform_ip(GstBaseTransform *base, GstBuffer *buffe
     gst_buffer_unmap(buffer, &map);
     if (!right) {
         const gchar *text = self->rate ? "malformed: no triplets of a frame" : "malformed: no distribution packet";
-        return tell(self, CCSUITE_MALFORMED, text, self->frames - 1) ? GST_FLOW_OK : GST_FLOW_ERROR;
+        return tell(self, CCSUITE_MALFORMED, text, self->frames) ? GST_FLOW_OK : GST_FLOW_ERROR;
     }
+    self->frames++;
     if (ccsuite_verifier_feed(&self->verifier, words, size, &fed) == CCSUITE_OK) return GST_FLOW_OK;
     return tell_verdict(self) ? GST_FLOW_OK : GST_FLOW_ERROR;
 }
