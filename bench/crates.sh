@@ -27,7 +27,7 @@ build_program() {
     cp "$work/crates/$name/out/$name" "$program"
 }
 
-# times the program with these words, five times each, and says what it takes for each of so many of a name
+# times the program with these words, five times each, and says what it takes for each of this many of a name
 time_words() {
     local count=$1 each=$2
     for word in "${@:3}"; do

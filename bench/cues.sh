@@ -4,7 +4,7 @@
 # bench/cues in a folder of its own.
 . "$(dirname "$0")/crates.sh"
 
-# a list of so many cues, each of two rows, 50 frames apart
+# a list of this many cues, each of two rows, 50 frames apart
 list() {
     echo "ccsuite,1,29.97,1000000"
     awk -v cues="$1" 'BEGIN {
@@ -15,7 +15,7 @@ list() {
         }
     }'
 }
-# a list of so many cues by turns in eight windows of a service, 50 frames apart, each with a delay of 16 frames
+# a list of this many cues by turns in eight windows of a service, 50 frames apart, each with a delay of 16 frames
 windows() {
     echo "ccsuite,1,29.97,1000000"
     echo "share,1,31"

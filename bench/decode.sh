@@ -9,7 +9,7 @@
 source "$(dirname "$0")/lists.sh"
 source bench/services_words.sh
 
-# a list of 100,000 frames: every so many frames the captions that an awk function puts, which is given the first of them
+# a list of 100,000 frames: every this many frames the captions that an awk function puts, which is given the first of them
 list() {
     awk -v every="$1" "$2"'
     BEGIN { print "ccsuite,1,29.97,100000"; for (b = 0; b < 99800; b += every) captions(b) }'

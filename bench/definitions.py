@@ -22,7 +22,7 @@ LIBRARY = ("ccsuite_c/src/*.rt", r'pub extern "C" fn ')
 # - what a cue, a window and a share may be (cue_types) is the form of cue lists, as cue_form's records of them are; the other
 #   notions of cues are own;
 # - the words in which frames are written (frame_carrier) are a written form of the standards;
-# - the lines that commands put are own forms of text, as those of grids are;
+# - the lines that commands put are own forms of text, as the lines of grids are;
 # - that control pairs are sent twice (in lanes) is the standards' rule for pairs;
 # - what a receiver holds behind pairs and bytes is a receiver's, though crates of laws say it;
 # - crates of commands join, all of them.

@@ -1,12 +1,12 @@
 #!/usr/bin/env bash
 # `dual` of two lists of 10,000 pop-on captions, on CC1 and on CC2, beside `pairs` and `build` of the first list and `cat` of its own words, by turns in
 # one run: the least of five runs each, into `cat`. Then the instructions of all but the words of its frames, for which `dual` of as many frames without a
-# caption is taken off, beside those of `pairs`; and a caption's share of them, of lists of 10,000 and of 1,000. Needs build/ccsuite (make), gcc and
+# caption is taken off, beside `pairs`' own; and a caption's share of them, of lists of 10,000 and of 1,000. Needs build/ccsuite (make), gcc and
 # valgrind.
 . "$(dirname "$0")/lists.sh"
 . "$(dirname "$0")/timing.sh"
 
-# a list of so many captions, a caption every 50 frames, loaded, shown and hidden so many frames behind the first of them
+# a list of this many captions, a caption every 50 frames, loaded, shown and hidden this many frames after the first of them
 list() {
     awk -v count="$1" -v load="$2" -v show="$3" -v hide="$4" 'BEGIN {
         printf "ccsuite,1,29.97,%d\n", 50 * count + 100

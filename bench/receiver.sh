@@ -7,7 +7,7 @@ first_words=(null 1)
 build_program receiver cc_receiver
 frames=20000
 
-# the instructions of a run of a stream with so many frames, in takes of so many bytes if they are given
+# the instructions of a run of a stream with this many frames, in takes of this many bytes if they are given
 count() { instructions "$program" "$@"; }
 declare -A each
 for stream in null pop; do

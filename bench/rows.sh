@@ -64,7 +64,7 @@ keep_took() {
 # how many instructions a command takes outside the kernel, as valgrind counts them
 instructions() { valgrind --tool=callgrind --callgrind-out-file=/dev/null "$@" 2>&1 > /dev/null | awk '/Collected/ { print $4 }'; }
 
-# the time of a name in milliseconds, and in nanoseconds for each of so many
+# the time of a name in milliseconds, and in nanoseconds for each of this many
 ms() { part "${least[$1]-}" 1000; }
 ns() { part "${least[$1]:+${least[$1]}000}" "$2"; }
 part() { awk -v number="$1" -v by="$2" 'BEGIN { if (number != "") print number / by }'; }

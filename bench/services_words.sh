@@ -1,5 +1,5 @@
-# Sourced behind lists.sh by the scripts that time readers of services: a program `services_words` that writes the words of frames whose
-# captions are those of services of DTVCC. Needs gcc.
+# Sourced after lists.sh by the scripts that time readers of services: a program `services_words` that writes the words of frames whose
+# captions are in services of DTVCC. Needs gcc.
 
 gcc -O2 -o "$work/services_words" -x c - <<'END'
 // Writes the words of frames at 29.97 whose captions are those of services of DTVCC, as many frames as the first argument says. Of every

@@ -5,7 +5,7 @@
 . "$(dirname "$0")/lists.sh"
 . "$(dirname "$0")/timing.sh"
 
-# the list of `load` with so many captions
+# the list of `load` with this many captions
 load_list() {
     awk -v count="$1" 'BEGIN {
         printf "ccsuite,1,29.97,%d\nshare,1,31\n", 90 * count + 120
@@ -21,7 +21,7 @@ load_list() {
     }'
 }
 
-# says what a frame takes of a name, of so many frames
+# says what a frame takes of a name, of this many frames
 say_frame() { printf '%-34s %s ns a frame\n' "$1" $((least["$1"] * 1000 / $2)); }
 
 load_list 1110 > "$work/list.csv"

@@ -23,7 +23,7 @@ def srt(*subtitles):
     return "".join(blocks)
 
 
-# Lists, at 30 frames a second if the words don't say another rate: what it is, words, text, what is told, the records below the first one.
+# Lists, at 30 frames a second if the words don't say another rate: what it is, words, text, standard error, the records below the first one.
 LISTS = [
     ("one subtitle", "", srt(("02,000", "04,500", "Hello.")), "", """\
 pop,CC1,0,60,135
@@ -252,7 +252,7 @@ run,15,14,white,été
 pop,CC1,0,60,120
 run,15,14,white,été
 """),
-    # `one` is shown in the slots of frames 60 and 61, and erased in those of 72 and 73: 10 slots before this, and 28 after it, are those of two control
+    # `one` is shown in the slots of frames 60 and 61, and erased in those of 72 and 73: 10 slots before this, and 28 after it, are for two control
     # codes, two preambles and 30 pairs.
     ("too little time", "", srt(("02,000", "02,400", "one"), ("02,700", "04,000", COUNCIL)),
      "FILE line 6: 1 of 2 captions are shown later than they say, at most 21 frames\n", """\
@@ -273,7 +273,7 @@ run,15,0,white,to reopen the north bridges.
 """),
 ]
 
-# Files without a list: what it is, words, text, status, what is told.
+# Files without a list: what it is, words, text, status, standard error.
 REFUSED = [
     ("too dense", "--late 20", srt(("02,000", "02,400", "one"), ("02,700", "04,000", COUNCIL)), 8,
      f"FILE line 6: “{COUNCIL}”: it has no room up to 20 frames after its time: give it more time or less text, or a greater --late\n"),
@@ -295,7 +295,7 @@ REFUSED = [
      "FILE line 6: CC1 has no letters like П в е и р т (CYRILLIC); --replace shows ? in their place\n"),
     ("four services", "--on S1,S2,S3,S4", srt(("02,000", "04,000", "A")), 1, "subtitles.py: at 30 frames a second there is room for 3 services\n"),
 ]
-# Words that aren't taken, and the end of what is told.
+# Words that aren't taken, and the end of standard error.
 USAGE = [
     ("--on CC2", "--on takes CC1, CC3 and S1 to S6, each once"), ("--on CC1,CC1", "--on takes CC1, CC3 and S1 to S6, each once"),
     ("--late 1001", "argument --late: 1001 isn't 0 to 1000"), ("--row 0", "argument --row: 0 isn't 1 to 15"),

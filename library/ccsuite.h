@@ -20,8 +20,8 @@
  *
  * MEMORY
  *   The caller owns every buffer, and the library keeps no pointer to one beyond the call. A handle owns what its `_open` took from malloc, and
- *   `_close` frees it. Want of memory is answered (CCSUITE_MEMORY), never fatal; a call that answers it has freed what it took.
- *   Nothing is written past `room`. Bytes of `out` behind those that are told as written are as they were. ROOM comes only where there are more bytes
+ *   `_close` frees it. Out of memory is an answer (CCSUITE_MEMORY), never fatal; a call that answers it has freed what it took.
+ *   Nothing is written past `room`. Bytes of `out` after the written ones are as they were. ROOM comes only where there are more bytes
  *   to write than `room`.
  *
  * HANDLES
@@ -41,7 +41,7 @@
 #ifndef CCSUITE_H
 #define CCSUITE_H
 
-/* The version of this header; `ccsuite_version` tells that of the library that is there when the program runs. MINOR rises with a call or a field that
+/* The version of this header; `ccsuite_version` tells the version of the library at run time. MINOR rises with a call or a field that
  * is new, PATCH with neither. If a program would have to be compiled anew, MAJOR rises, and the library has another soname: libccsuite.so.0 here. Structs
  * that the library writes have fields `reserved`, which are 0, so that a field may come without that. */
 #define CCSUITE_VERSION "1.0"
@@ -233,7 +233,7 @@ typedef struct ccsuite_time {
     uint8_t hours;   /* 0 to 23 */
     uint8_t minutes; /* 0 to 59 */
     uint8_t seconds; /* 0 to 59 */
-    uint8_t frames;  /* from 0, and below those of a second */
+    uint8_t frames;  /* from 0, and below the number in a second */
     bool drop_frame; /* it counts with drop frame */
 } ccsuite_time;
 
@@ -241,13 +241,13 @@ typedef struct ccsuite_time {
  * DIFFERS, LIMIT, MALFORMED, ROOM, MEMORY. */
 uint32_t ccsuite_export(const uint8_t *words, size_t words_size, const ccsuite_time *start, uint8_t *out, size_t room, ccsuite_report *report);
 
-/* Words in; out the MCC file of all their packets, whose time codes count so many frames a second: 24, 25, 30, 50 or 60, at 30 and 60 with drop
+/* Words in; out the MCC file of all their packets, whose time codes count this many frames a second: 24, 25, 30, 50 or 60, at 30 and 60 with drop
  * frame too. ARGUMENT where they can't count so, or no frame of the day has the time code; DIFFERS at the first packet whose rate they don't count,
  * or that MCC can't carry; LIMIT (bytes, day), MALFORMED, ROOM, MEMORY. */
 uint32_t ccsuite_export_mcc(const uint8_t *words, size_t words_size, uint32_t frames, const ccsuite_time *start, uint8_t *out, size_t room,
                             ccsuite_report *report);
 
-/* Out four lines on what comes of a list of so many captions, 1 to 10,000, that the library makes, builds and shows: a test of the library on this
+/* Out four lines on what comes of a list of this many captions, 1 to 10,000, that the library makes, builds and shows: a test of the library on this
  * machine. ARGUMENT, ROOM, MEMORY. */
 uint32_t ccsuite_load(uint32_t count, uint8_t *out, size_t room, ccsuite_report *report);
 
@@ -432,7 +432,7 @@ uint32_t ccsuite_receiver_window(ccsuite_receiver *receiver, uint32_t service, u
 uint32_t ccsuite_receiver_window_cell(ccsuite_receiver *receiver, uint32_t service, uint32_t id, uint32_t row, uint32_t column,
                                       ccsuite_window_cell *cell);
 
-/* All its cells, row by row: that at row R and column C is cells[columns * R + C], where the window has so many columns. CLOSED, ARGUMENT; NONE where there
+/* All its cells, row by row: the one at row R and column C is cells[columns * R + C], by the window's columns. CLOSED, ARGUMENT; NONE where there
  * is no window; ROOM where `room`, in cells, is below its rows times its columns; CCSUITE_WINDOW_CELLS is always enough. They are written only where the
  * answer is OK. */
 #define CCSUITE_WINDOW_CELLS 1024

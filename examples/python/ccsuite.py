@@ -85,7 +85,7 @@ COLOURS = ("white", "green", "blue", "cyan", "red", "yellow", "magenta")
 CHANNELS = ("CC1", "CC2", "CC3", "CC4")
 # More than all screens and windows together, each cell a run of its own, have as text.
 SCREENS_ROOM = 32 << 20
-# The most bytes of a frame's ancillary packet, of its distribution packet, of its triplets, and of those of a packet that is read.
+# The most bytes of a frame's ancillary packet, of its distribution packet, of its triplets, and of the triplets of a packet that is read.
 PACKET_ROOM, CDP_ROOM, CC_DATA_SIZE, CC_DATA_ROOM = 524, 255, 93, 244
 
 
@@ -185,7 +185,7 @@ def _error_of(report: _Report, written: bytes = b"") -> Error:
         fields["frame"] = report.frame
     if report.channel:
         fields["channel"] = CHANNELS[report.channel - 1]
-    # The numbers that a finding has are told together; of the rest a zero means that there is none.
+    # The numbers that a finding has come together; of the rest a zero means that there is none.
     told = " expected " in report.text.decode()
     for name in ("record", "field", "cue", "other", "packet", "service", "expected", "seen"):
         number = getattr(report, name)

@@ -28,7 +28,7 @@ pub not_is : (other same : Bool) → other ≡ not same → not other ≡ same
 not_is other true is = ap not is
 not_is other false is = ap not is
 
--- the words of pairs of bytes are those of the bytes
+-- the words of pairs of bytes are the bytes' words
 words_of-chunks : (many : ℕ) (bytes : List ℕ) → length bytes / 2 ≡ many → map word_of (first_chunks 2 many bytes) ≡ words_of bytes
 words_of-chunks zero [] long = refl
 words_of-chunks (suc many) [] long = absurd (omega arith)
@@ -37,7 +37,7 @@ words_of-chunks (suc many) (high ∷ []) long = absurd (omega arith)
 words_of-chunks zero (high ∷ low ∷ bytes) long = absurd (omega arith)
 words_of-chunks (suc many) (high ∷ low ∷ bytes) long = ap (λ words. (256 * high + low) ∷ words) (words_of-chunks many bytes (omega arith))
 
--- and the low bytes those of the words
+-- and the low bytes are the words' low bytes
 low_bytes-chunks : (many : ℕ) (bytes : List ℕ) → AllByRecursion IsByte bytes → length bytes / 2 ≡ many
     → map low_of (first_chunks 2 many bytes) ≡ map (λ word. word % 256) (words_of bytes)
 low_bytes-chunks zero [] are long = refl

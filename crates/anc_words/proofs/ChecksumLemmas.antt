@@ -7,7 +7,7 @@ use Rattle.anc_words.specs.EightBitWords.{HasInverse}
 use Rattle.anc_words.specs.Checksums.{IsChecksum, nine_bits}
 use Rattle.anc_words.specs.Writing.{nine_bit_word, checksum_word}
 
--- the sum of whole words is that of their low nine bits, modulo 512
+-- the sum of whole words is the sum of their low nine bits, modulo 512
 sum_by-nine_bits : (words : List ℕ) → sum_by nine_bits words % 512 ≡ sum words % 512
 sum_by-nine_bits [] = refl
 sum_by-nine_bits (word ∷ words) =
@@ -24,7 +24,7 @@ nine_bit_word-low low below = grind (arith, nat_tests)
 nine_bit_word-inverse : (low : ℕ) → low < 512 → HasInverse (nine_bit_word low)
 nine_bit_word-inverse low below = grind (arith, nat_tests)
 
--- a word is that of its low nine bits where bit 9 is the inverse of bit 8
+-- a word is made of its low nine bits where bit 9 is the inverse of bit 8
 nine_bit_word-of : (word : ℕ) → word < 1024 → HasInverse word → word ≡ nine_bit_word (word % 512)
 nine_bit_word-of word below inverse = grind (arith, nat_tests)
 

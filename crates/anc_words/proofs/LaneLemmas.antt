@@ -1,4 +1,4 @@
--- Words eight at a time, a lane each: which are 8-bit words, those of bytes, their bytes, and their sum.
+-- Words eight at a time, a lane each: which are 8-bit words, the words of bytes, their bytes, and their sum.
 use Rattle.std.proofs.Common.{◌≡◌, ◌+◌, ◌*◌, ◌/◌, ◌%◌, ◌^◌, ◌-◌, ◌<◌, ◌≤◌, ◌==◌, ℕ, zero, suc, Bool, true, false, not, ◌&&◌, if◌then◌else◌, cond, eqb, nat_eq, nat_lt, List, [], ◌∷◌, ◌++◌, Option, None, Some, length, map, take, drop, get_or, replicate, count_ones, bit_and, bit_xor, refl, arith, ap, sym, subst, ◌∙◌, ◌↔◌, inl, inr, Fits, lit<, lit≤, append-nil, append_assoc}
 use mir.Syntax.{w8, w16}
 use Rattle.std.proofs.lemmas.Bool.{agree_below_at, cases_eq}
@@ -422,7 +422,7 @@ pub chunks-split : {X : Type 0} (f : X → ℕ) (xs rest : List X) (eights : Lis
 chunks-split f xs rest eights many are left =
     ap (map f) (sym (chunks-joined many xs) ∙ rw (← are, ← left) refl) ∙ map-append f (flat_map (λ eight. eight) eights) rest
 
--- the words are right where they have a sum, and the checksum word is that of all
+-- the words are right where they have a sum, and the checksum word is the one of them all
 pub right-words : (count checksum total : ℕ) (user : List ℕ) → Some total ≡ checked_sum user
     → ((is_eight_bit count ≡ true) × (checksum ≡ nine_bit_word ((0x161 + 0x101 + count + total) % 512))) ↔ AreRight count user checksum
 right-words count checksum total user some =

@@ -176,7 +176,7 @@ packet-bytes p did sdid few user =
       record { words = words_of_packet p; spelled = AreWords-flat_map (words_of_packet p) (IsPacket-ten_bits p _ is); is_packet = is },
     )
 
--- 8-bit words are those of their bytes
+-- 8-bit words are the words of their own bytes
 words_of_bytes : (words : List ℕ) → AllByRecursion (λ word. IsEightBit (word % 256) word) words
     → map eight_bit_word (map (λ word. word % 256) words) ≡ words
 words_of_bytes [] are = refl

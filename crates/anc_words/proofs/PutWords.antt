@@ -22,7 +22,7 @@ both-sums front back words first second is other both =
     let total : sum words ≡ sum front + sum back = ap sum both ∙ sum_by-append (λ x. x) front back in
     omega (arith, is, other, total)
 
--- the bytes so far are the old ones and those of the words of these user bytes, whose sum, modulo 2^16, is as given
+-- the bytes so far are the old ones and the bytes of the words of these user bytes, whose sum, modulo 2^16, is as given
 pub record ArePut (old now user : List ℕ) (total : ℕ) : Type 0 where
   pub items : now ≡ old ++ flat_map word_bytes (map eight_bit_word user)
   pub len : length now ≡ length old + 2 * length user
@@ -32,7 +32,7 @@ pub record ArePut (old now user : List ℕ) (total : ℕ) : Type 0 where
 abbrev pub words_of_eights : List (List ℕ) → List ℕ
 words_of_eights eights = map eight_bit_word (flat_map (λ eight. eight) eights)
 
--- the bytes so far are the old ones and those of the words of this many eights, whose sum is in the lanes
+-- the bytes so far are the old ones and the bytes of the words of this many eights, whose sum is in the lanes
 pub record EightsArePut (old now : List ℕ) (eights : List (List ℕ)) (many : ℕ) (sums : List ℕ) : Type 0 where
   pub items : now ≡ old ++ flat_map word_bytes (words_of_eights (take many eights))
   pub len : length now ≡ length old + 16 * many

@@ -39,7 +39,7 @@ or_not true c follows = refl
 or_not false true follows = follows refl
 or_not false false follows = refl
 
--- the identifiers are those of captions
+-- the identifiers are a caption packet's
 pub is_caption-is : (did sdid : ℕ) → is_caption did sdid ≡ true → (did % 256 ≡ 0x61) × (sdid % 256 ≡ 0x01)
 is_caption-is did sdid is =
     let (one, two) = and_parts (did % 256 == 0x61) (sdid % 256 == 0x01) is in

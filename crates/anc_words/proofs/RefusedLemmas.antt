@@ -1,4 +1,4 @@
--- A refusal of bytes is that of their first refused word.
+-- Bytes are refused at their first refused word, and for its reason.
 use Rattle.std.proofs.Common.{◌≡◌, ℕ, ◌+◌, ◌-◌, ◌%◌, ◌^◌, List, [], ◌∷◌, ◌++◌, length, Option, Some, None, refl, ap, sym, subst, ◌∙◌, arith, append_assoc, append-nil, length-append}
 use Rattle.cc_base.specs.declared.refusal.Refusal.{Refusal}
 use Rattle.cc_base.specs.declared.why.Why.{Why}
@@ -34,7 +34,7 @@ ends_with (h ∷ l ∷ bytes) high is =
       even = omega arith;
     }
 
--- the place of a word's low byte is that of its high byte
+-- the place of a word's low byte is its high byte's place
 place_of_low : (n : ℕ) → n % 2 ≡ 0 → (n + 1) % 2 ^ 64 - (n + 1) % 2 ^ 64 % 2 ≡ n % 2 ^ 64
 place_of_low n even = omega arith
 
@@ -74,7 +74,7 @@ refused_word verdict bytes refusal high has ends =
           ∙ ap (λ ps. (hand verdict ps (judge_byte (open_behind anc_syntax has.taken) has.item)).why) (sym parts) ∙ has.why_is;
     }
 
--- a refusal is that of the first refused word
+-- bytes are refused at their first refused word
 pub HasRefusedWord-from : (verdict : Verdict WordPart) (bytes : List ℕ) (refusal : Refusal) → (read_under anc_syntax 2 verdict bytes).refusal ≡ Some refusal
     → HasRefusedWord verdict bytes refusal
 HasRefusedWord-from verdict bytes refusal refused =

@@ -38,7 +38,7 @@ pub IsEightBit-passed : (word : ℕ) → is_eight_bit word ≡ true → IsEightB
 IsEightBit-passed word is =
     subst (IsEightBit (word % 256)) (sym (test-same word (eight_bit_word (word % 256)) is)) (eight_bit_word-is (word % 256) (omega arith))
 
--- a user word after these identifiers: those of captions are 8-bit words
+-- a user word after these identifiers: a caption packet's are 8-bit words
 pub record IsUserBehind (did sdid word : ℕ) : Type 0 where
   pub ten_bits : word < 1024
   pub caption : did % 256 ≡ 0x61 → sdid % 256 ≡ 0x01 → IsEightBit (word % 256) word

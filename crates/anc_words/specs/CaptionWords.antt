@@ -21,7 +21,7 @@ pub record BeginsWithCaptions (bytes : List ℕ) (count : ℕ) (user : List ℕ)
   pub spelled : words_of bytes ≡ 0x000 ∷ 0x3FF ∷ 0x3FF ∷ 0x161 ∷ 0x101 ∷ count ∷ (user ++ checksum ∷ rest)
   pub many : length user ≡ count % 256
 
--- they are 8-bit words, and the checksum word is that of the words from DID on
+-- they are 8-bit words, and the checksum word is the one of the words from DID on
 pub record AreRight (count : ℕ) (user : List ℕ) (checksum : ℕ) : Type 0 where
   pub count_is : is_eight_bit count ≡ true
   pub user_are : list_all is_eight_bit user ≡ true

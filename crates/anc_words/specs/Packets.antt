@@ -1,7 +1,7 @@
 -- Believed: the program's answer stands on these definitions.
 -- Ancillary packets (SMPTE ST 291-1): the ancillary data flag 000 3FF 3FF, DID, SDID, count, the user words
 -- and the checksum word. Captions are those with DID 61 and SDID 01 (SMPTE ST 334-1); their user words are
--- 8-bit words, and those of another packet may be any words of ten bits, also the ones that the standard
+-- 8-bit words, and another packet's may be any words of ten bits, also the ones that the standard
 -- reserves.
 use Rattle.std.specs.Prelude.{◌≡◌, ℕ, ◌%◌, ◌<◌, List, [], ◌∷◌, ◌++◌, map, length}
 use Rattle.std.specs.List.{All}

@@ -18,7 +18,7 @@ use Rattle.anc_words.specs.Writing.{eight_bit_word, checksum_word}
 abbrev pub is_eight_bit : ℕ → Bool
 is_eight_bit word = word == eight_bit_word (word % 256)
 
--- the identifiers, as words, are those of captions
+-- the identifiers, as words, are a caption packet's
 abbrev pub is_caption : ℕ → ℕ → Bool
 is_caption did sdid = (did % 256 == 0x61) && (sdid % 256 == 0x01)
 
@@ -83,8 +83,8 @@ word_syntax = record { start = []; judge = judge_word; after = words_after }
 abbrev pub packet_parts : AncillaryPacket → List WordPart
 packet_parts packet = part.Start packet.did packet.sdid (length packet.user) ∷ (map part.User packet.user ++ part.End ∷ [])
 
--- the bytes have a first refused word: no word before it is refused, nor is their last byte half of one, the refusal's place is
--- the number of its first byte, modulo 2^64, and the reason is the word's own, or that of the part which it completes, above
+-- the bytes have a first refused word: no word before it is refused, nor is their last byte half of one. The refusal's place is
+-- the number of its first byte, modulo 2^64. The reason is the word's own, or the reason above for the part which it completes
 pub record HasRefusedWord (verdict : Verdict WordPart) (bytes : List ℕ) (refusal : Refusal) : Type 0 where
   pub before : List ℕ
   pub high : ℕ

@@ -13,7 +13,7 @@ eight_bit_word byte = if count_ones byte % 2 == 1 then byte + 0x100 else byte + 
 abbrev pub nine_bit_word : ℕ → ℕ
 nine_bit_word low = if nat_lt low 0x100 then low + 0x200 else low
 
--- the checksum word of words; modulo 512 their sum is that of their low nine bits
+-- the checksum word of words; modulo 512 their sum is the sum of their low nine bits
 abbrev pub checksum_word : List ℕ → ℕ
 checksum_word words = nine_bit_word (sum words % 512)
 

@@ -4,8 +4,8 @@ ghost use Rattle.anc_words.specs.CaptionWords.{low_of};
 use crate::caption_words::CaptionWords;
 use crate::words::low_byte;
 
-/// A whole ancillary packet of captions (SMPTE ST 291-1), with DID 61 and SDID 01 (SMPTE ST 334-1): the flag, DID, SDID, the
-/// count, the user words and the checksum word, all as they must be. It borrows the bytes in which it was found.
+/// A whole ancillary packet of captions (SMPTE ST 291-1), with DID 61 and SDID 01 (SMPTE ST 334-1). The flag, DID, SDID, the
+/// count, the user words and the checksum word are all as they must be. It borrows the bytes in which it was found.
 #[derive(Clone, Copy)]
 pub struct CaptionPacket<'a> {
     // The user words, the high byte of each first.

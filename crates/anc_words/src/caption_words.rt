@@ -52,7 +52,7 @@ impl<'a> CaptionWords<'a> {
         })
     }
 
-    /// The sum of the user words, modulo 2^16, where all are 8-bit words, and the checksum word is that of the others. `None`
+    /// The sum of the user words, modulo 2^16, where all are 8-bit words, and the checksum word is the one of the others. `None`
     /// where they aren't.
     #[inline]
     pub(crate) fn right_sum(&self) -> Option<u16>

@@ -48,7 +48,7 @@ pub fn packet_bytes_are_spelled_one_way()
 {}
 
 /// Each packet whose identifiers are bytes and that has at most 255 user words, as they may be there, can be sent: it has
-/// bytes. Those of a packet that isn't of captions may be any words of ten bits.
+/// bytes. The user words of a packet that isn't of captions may be any words of ten bits.
 pub fn packets_have_bytes()
     ensures bytes { (packet : AncillaryPacket) → packet.did < 256 → packet.sdid < 256
         → length packet.user ≤ 255
@@ -75,8 +75,8 @@ pub fn captions_ahead_are_found_one_way()
         → size ≡ 2 * length user + 14 }
 {}
 
-/// What was written is read back: where a packet stands at the front of the bytes written and of any bytes after
-/// them, it has the identifiers and carries the user bytes that were given, and those bytes are left after it.
+/// What was written is read back: a packet that stands at the front of the bytes written and of any bytes after
+/// them has the identifiers and carries the user bytes that were given. Those bytes are left after it.
 pub fn written_is_read()
     ensures { (did sdid : ℕ) (user : List ℕ) (packet : AncillaryPacket) (front rest after : List ℕ)
         → did < 256 → sdid < 256 → length user ≤ 255 → All (λ byte. byte < 256) user
@@ -164,8 +164,8 @@ pub fn words_are_judged_by_the_standard()
         → (judge_word words word ≡ Refuse reason) ↔ WordOffends words word reason }
 {}
 
-/// A refusal is that of the first refused word: its place is the number of the word's first byte, and its reason is the word's
-/// own, by the words before it, or that of the layer above for the part which the word completes.
+/// Bytes are refused at their first refused word. The place is the number of the word's first byte. The reason is the word's own, by
+/// the words before it, or the reason of the layer above for the part which the word completes.
 pub fn a_refusal_is_of_the_first_refused_word()
     ensures { (verdict : Verdict Part) (bytes : List ℕ) (refused : Refused)
         → (read_under anc_syntax 2 verdict bytes).refusal ≡ Some refused

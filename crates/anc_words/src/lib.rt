@@ -1,5 +1,5 @@
 //! Ancillary packets (SMPTE ST 291-1) as the bytes of a words file: each ten-bit word as two bytes, the high
-//! byte first, packets back to back. Closed captions are carried in those of SMPTE ST 334-1, with DID 61 and
+//! byte first, packets back to back. Closed captions are carried in the packets of SMPTE ST 334-1, with DID 61 and
 //! SDID 01.
 #![tactic(auto)]
 

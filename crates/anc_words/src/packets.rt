@@ -19,9 +19,9 @@ pub const CAPTION_SDID: u8 = 0x01;
 // The bytes of the longest packet: 255 user words and seven others, two bytes each.
 const ROOM: usize = 524;
 
-/// Writes the ancillary packet with these identifiers and user bytes into `out`: the flag 000 3FF 3FF, DID, SDID, the
-/// count of the user words, the user words and the checksum word (SMPTE ST 291-1), each as two bytes, the high one
-/// first. Every user byte is an 8-bit word there, whatever the identifiers are; those of closed captions are 0x61 and
+/// Writes the ancillary packet with these identifiers and user bytes into `out` (SMPTE ST 291-1). It is the flag 000
+/// 3FF 3FF, DID, SDID, the count of the user words, the user words and the checksum word, each as two bytes, the high
+/// one first. Every user byte is an 8-bit word there, whatever the identifiers are; closed captions' are 0x61 and
 /// 0x01 (SMPTE ST 334-1). There are at most 255 user bytes, and `out` is empty before.
 #[inline(always)]
 pub fn write_packet(did: u8, sdid: u8, user: &[u8], out: &mut ArrayVec<u8, 524>)

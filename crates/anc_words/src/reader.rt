@@ -17,9 +17,9 @@ use cc_base::{Fed, Refusal, Resume, Upward, Why};
 /// high one first (SMPTE ST 291-1). It hands the parts of the packets upward.
 ///
 /// A word is refused with its low byte, in this order: `HighBits` above 3FF, `Flag` where one of the first three words is
-/// another one, `WordParity` where DID, SDID, the count, or a user word of captions (DID 61, SDID 01) has a wrong bit 8 or 9,
-/// `AncSum` where the checksum word is another one, and then for the reason of the layer above. The place is the number of
-/// the word's first byte. The reader keeps counts and a sum, and none of the words.
+/// another one, `WordParity` and `AncSum`, and then for the reason of the layer above. `WordParity` is the reason if DID,
+/// SDID, the count, or a user word of captions (DID 61, SDID 01) has a wrong bit 8 or 9, and `AncSum` if the checksum word is
+/// another one. The place is the number of the word's first byte. The reader keeps counts and a sum, and none of the words.
 #[derive(Clone, Copy)]
 pub struct WordReader {
     fed: Fed<OpenPacket>,
@@ -77,8 +77,8 @@ impl WordReader {
         self.fed.refusal
     }
 
-    /// Says whether the bytes fed may end here: the kept refusal, if there is one; else `Truncated`, at the number of bytes
-    /// fed, where bytes were fed and the last of them doesn't end a packet.
+    /// Says whether the bytes fed may end here. Else it answers the kept refusal, if there is one, or `Truncated`, at the
+    /// number of bytes fed, where bytes were fed and the last of them doesn't end a packet.
     pub fn finish(&self) -> Result<(), Refusal>
         ensures kept { (refused : Refused) → kept_refusal self.now ≡ Some refused
             → result_err result ≡ Some refused }

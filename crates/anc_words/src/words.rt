@@ -41,7 +41,7 @@ impl Word {
         value == Word::eight_bit((value % 256) as u8).value
     }
 
-    /// The checksum word of words with this sum: its low nine bits are those of the sum, and bit 9 is the inverse of
+    /// The checksum word of words with this sum: its low nine bits are the sum's, and bit 9 is the inverse of
     /// bit 8.
     #[inline]
     pub(crate) fn checksum(sum: u32) -> Word

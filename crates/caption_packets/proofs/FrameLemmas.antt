@@ -1,4 +1,4 @@
--- Triplets that are read of bytes, and the bytes of those of sections; what holds where there is nothing.
+-- Triplets that are read of bytes, and the bytes of sections' triplets; what holds where there is nothing.
 use Rattle.std.proofs.Common.{◌≡◌, ◌+◌, ◌≤◌, ◌==◌, ◌∙◌, ℕ, List, [], ◌∷◌, ◌++◌, ap, append_assoc, append-nil, arith, drop, get_or, length, refl, sym, take}
 use Rattle.std.specs.Prelude.{Bool, true, false, IfNone, None, Option, Some, if◌then◌else◌}
 use Rattle.std.specs.List.{concat, flat_map}
@@ -28,7 +28,7 @@ none_read (_ ∷ []) few = refl
 none_read (_ ∷ _ ∷ []) few = refl
 none_read (_ ∷ _ ∷ _ ∷ bytes) few = absurd (omega (arith, few))
 
--- the bytes that were gathered, and those of the sections that are left, are all
+-- the bytes that were gathered, and the bytes of the sections that are left, are all
 pub record AreOnTheWay (cut : List (List ℕ)) (rest bytes : List ℕ) : Type 0 where
   pub left : List (List ℕ)
   pub are : AreSections left

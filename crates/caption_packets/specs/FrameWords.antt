@@ -12,7 +12,7 @@ use Rattle.cdp_packets.specs.PacketTriplets.{section_triplet_bytes}
 use Rattle.words_files.specs.CarriedWords.{carried_words, triplets_packet}
 use Rattle.caption_packets.specs.declared.reading.FrameData.{FrameData}
 
--- these bytes are whole triplets, as many as a packet can carry, and this code is that of a rate, and this number a counter
+-- these bytes are whole triplets, as many as a packet can carry, this code is a rate's, and this number a counter
 pub record IsFrame (cc_data : List ℕ) (code counter : ℕ) (rate : Rate) : Type 0 where
   pub whole : length cc_data % 3 ≡ 0
   pub few : length cc_data ≤ 93
@@ -37,7 +37,7 @@ pub record CarriesCdp (words cdp : List ℕ) : Type 0 where
   pub packet : Frame
   pub is : IsCdp packet cdp
 
--- it is told what the packet that the words carry says, and the bytes of its triplets
+-- what the packet that the words carry says, and the bytes of its triplets
 pub record SaysFrame (words : List ℕ) (told : FrameData) : Type 0 where
   pub cdp : List ℕ
   pub carried : CarriesCdp words cdp

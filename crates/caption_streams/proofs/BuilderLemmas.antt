@@ -29,7 +29,7 @@ one_more list placed frame b is some =
     let left : frame + (count_of b.ahead + frames_left b.plan) ≡ list.frames = is.left in
     omega (arith, left, counted b.ahead some)
 
--- and what is made of it, by its number and that of the channel packets before it, is what is made of its column
+-- and what is made of it, by its number and the number of the channel packets before it, is what is made of its column
 pub made_next : {A : Type 0} (make : Rate → ℕ → ℕ → FrameBytes → A) (list : Listing) (placed : Placement) (frame : ℕ) (b : Building) (bytes : FrameBytes) (made : A)
     → IsBuilding list placed frame b → b.ahead ≡ Some bytes
     → ((rate : Rate) (number count : ℕ) → IsAt rate number count b.carrier → made ≡ make rate number count bytes)

@@ -18,7 +18,7 @@ use Rattle.caption_streams.specs.declared.building.FrameForm.TheVariants as form
 use Rattle.caption_streams.specs.declared.building.NextFrame.{NextFrame}
 use Rattle.caption_streams.specs.declared.building.NextFrame.TheVariants as asked
 
--- how many frames it gives from now on: the next one, if there is one, and those of the plan
+-- how many frames it gives from now on: the next one, if there is one, and the plan's
 abbrev pub count_of : Option FrameBytes → ℕ
 count_of None = 0
 count_of (Some bytes) = 1

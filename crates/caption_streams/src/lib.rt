@@ -1,6 +1,6 @@
-//! Captions as streams, for programs that live with them frame by frame: a builder of the frames of a cue list, a receiver of words, of
-//! which frames may be missing, and a verifier of words against a cue list. Each takes its bytes in any pieces, and keeps what it needs
-//! from one call to the next.
+//! Captions as streams, for programs that live with them frame by frame. There are a builder of the frames of a cue list, a receiver of
+//! words, of which frames may be missing, and a verifier of words against a cue list. Each takes its bytes in any pieces, and keeps
+//! what it needs from one call to the next.
 #![tactic(auto)]
 
 pub use crate::building::{Building, FrameForm, NextFrame};

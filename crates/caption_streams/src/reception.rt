@@ -43,8 +43,8 @@ impl Reception {
         }
     }
 
-    /// Says whether the bytes fed may end here: the kept refusal, if there is one; else `Truncated`, at the number of bytes fed, where
-    /// bytes were fed and the last of them doesn't end a packet.
+    /// Says whether the bytes fed may end here. Else it answers the kept refusal, if there is one, or `Truncated`, at the number of
+    /// bytes fed, where bytes were fed and the last of them doesn't end a packet.
     pub fn finish(&self) -> Result<(), Refusal>
         ensures whole { (bytes : List ℕ) → HasFed bytes self.now → IsOk result
             → (frames : List Frame) × IsFileUnder caption_channel frames bytes }

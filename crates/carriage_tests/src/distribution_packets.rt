@@ -20,8 +20,8 @@ pub(crate) const WITHOUT_CAPTIONS: [u8; 73] = [
     0x00, 0x00, 0xFA, 0x00, 0x00, 0x74, 0x00, 0x00, 0xBF,
 ];
 
-// A packet at 25 frames a second with the flags E7 and the counter 1234, and a section of each kind: a time code, the information of one
-// service, one triplet of cc_data, three bytes after the first id kept for the future, and none after the last.
+// A packet at 25 frames a second with the flags E7 and the counter 1234, and a section of each kind. These are a time code, the
+// information of one service, one triplet of cc_data, three bytes after the first id kept for the future, and none after the last.
 const EVERY_KIND: [u8; 37] = [
     0x96, 0x69, 0x25, 0x3F, 0xE7, 0x12, 0x34, 0x71, 0xC1, 0x82, 0x93, 0x44, 0x73, 0xF1, 0xC1, 0x01,
     0x65, 0x6E, 0x67, 0x81, 0xFF, 0x72, 0xE1, 0xFC, 0x94, 0x20, 0x75, 0x03, 0x01, 0x02, 0x03, 0xEF,

@@ -3,7 +3,7 @@ use mcc_files::{PayloadReader, packet_line};
 use time_codes::Counting;
 
 // A payload is read in place of what was read before: nothing, items, an open digit, or a whole packet, of which a reader may have taken the
-// first byte too many; and where none is read, nothing is.
+// first byte too many. Where none is read, nothing is.
 #[test]
 fn payloads_are_read_in_place(rt: HostRuntime) {
     const FRONTS: &[&[u8]] = &[

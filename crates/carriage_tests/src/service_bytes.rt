@@ -22,8 +22,8 @@ fn a_header_overruns_in_a_third_byte()
         (record { place = 46; why = why.Overrun }) }
 {}
 
-// After FF 02 20, a packet with three bytes of which the first is a header without a block, FE 22 goes on: 22 is the header of a
-// block of two bytes where one is left. It offends in its own word, the second of the triplet.
+// FE 22 goes on after FF 02 20, a packet with three bytes of which the first is a header without a block. There 22 is the header
+// of a block of two bytes where one is left. It offends in its own word, the second of the triplet.
 fn a_header_overruns_in_a_second_byte()
     ensures { FirstOffendingWord caption_channel (take 42 frame_without_captions ++ flat_map word_bytes (0x2FF ∷ 0x102 ∷ 0x120 ∷ 0x1FE ∷ 0x222 ∷ []))
         (record { place = 50; why = why.Overrun }) }
@@ -38,8 +38,9 @@ fn each_service_is_given_its_bytes()
         ≡ Tick rate.F2997 ∷ Tick rate.F2997 ∷ Reset ∷ Byte 0x43 ∷ Byte 0x44 ∷ [] }
 {}
 
-// Two packets of three bytes: 02 with 22 41 42, a block of two bytes of service 1, and after a gap 82 with 43 44 45, whose block of
-// service 2 says three bytes and is cut short after two. After the first packet, the second one says its own bytes and the reset.
+// Two packets of three bytes. The first is 02 with 22 41 42, a block of two bytes of service 1. The second, after a gap, is 82 with
+// 43 44 45, whose block of service 2 says three bytes and is cut short after two. After the first packet, the second one says its
+// own bytes and the reset.
 fn triplets_say_what_their_blocks_say()
     ensures all { said_in (starting 0x02 0x22 ∷ continuing 0x41 0x42 ∷ starting 0x82 0x43 ∷ continuing 0x44 0x45 ∷ [])
         ≡ part.Byte 1 0x41 ∷ part.Byte 1 0x42 ∷ part.Reset ∷ part.Byte 2 0x44 ∷ part.Byte 2 0x45 ∷ [] }

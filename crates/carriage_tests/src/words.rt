@@ -25,7 +25,7 @@ fn another_flag_offends()
     ensures { FirstOffendingWord (layers_of never) (0x00 ∷ 0x00 ∷ 0x03 ∷ 0xFF ∷ 0x03 ∷ 0xFE ∷ []) (record { place = 4; why = why.Flag }) }
 {}
 
-// DID is an 8-bit word: that of 61 is 161.
+// DID is an 8-bit word: for 61 it is 161.
 fn a_wrong_parity_offends()
     ensures { FirstOffendingWord (layers_of never) (0x00 ∷ 0x00 ∷ 0x03 ∷ 0xFF ∷ 0x03 ∷ 0xFF ∷ 0x02 ∷ 0x61 ∷ [])
         (record { place = 6; why = why.WordParity }) }

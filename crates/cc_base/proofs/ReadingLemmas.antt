@@ -109,7 +109,7 @@ HasRefused-later judge verdict place before above item items refusal none has =
           ∙ ap (λ is. (hand verdict ((above ++ handed.parts) ++ one.parts) (judge is has.item)).why) (sym done) ∙ has.why_is;
     }
 
--- a refusal is that of the first refused item
+-- items are refused at the first refused one
 pub HasRefused-from : {I P : Type 0} (judge : Judge I P) (verdict : Verdict P) (place : List I → ℕ) (before : List I) (above : List P) (items : List I)
     (refusal : Refusal) → (reading judge verdict place before above items).refusal ≡ Some refusal
     → HasRefused judge verdict place before above items refusal

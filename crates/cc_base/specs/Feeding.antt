@@ -63,7 +63,7 @@ reading judge verdict place before above (item ∷ items) =
     read_first (refused_at (place before) handed.why) handed.parts
     (reading judge verdict place (before ++ item ∷ []) (above ++ handed.parts) items)
 
--- the items have a first refused one: those before it were read without a refusal, the refusal's place is that of the item,
+-- the items have a first refused one: those before it were read without a refusal, the refusal has the item's place,
 -- and its reason is why the item was refused after them
 pub record HasRefused {I P : Type 0} (judge : Judge I P) (verdict : Verdict P) (place : List I → ℕ)
     (before : List I) (above : List P) (items : List I) (refusal : Refusal) : Type 0 where

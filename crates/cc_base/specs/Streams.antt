@@ -1,5 +1,5 @@
 -- Believed in part: the program's answer stands on some of these definitions.
--- What a take and a put do to the bytes that a source has left and a sink has written, where these are told, and to the
+-- What a take and a put do to the bytes that a source has left and a sink has written, where these are known, and to the
 -- counts of their faults.
 use Rattle.std.specs.Prelude.{◌≡◌, ℕ, ◌+◌, ◌-◌, ◌^◌, ◌≤◌, min, List, length, take, Option, IfSome}
 use Rattle.std.specs.Io.KnownBytes.{Appends, Consumes, IsAtEnd, Keeps}
@@ -48,7 +48,7 @@ whole_limit = 67108864
 
 -- these are all bytes that a source had, taken from it within a limit
 pub record IsWhole (limit : ℕ) (old new : Option (List ℕ)) (whole : List ℕ) : Type 0 where
-  -- they are what was left, where that is told
+  -- they are what was left, where that is known
   pub bytes : IfSome old (λ left. whole ≡ left)
   -- they were taken
   pub taken : Consumes old new whole

@@ -39,8 +39,8 @@ parts_of syntax items = parts_from syntax syntax.start items
 abbrev pub judge_by : {Front I P : Type 0} → Syntax Front I P → Judge I P
 judge_by syntax before item = syntax.judge (open_behind syntax before) item
 
--- what is read of the items under this layer, where `unit` items have one place: up to the first item that is refused, for
--- its own reason or for that of the part which it completes
+-- what is read of the items under this layer, where `unit` items have one place: up to the first item that is refused. It is refused
+-- for its own reason, or for the reason above for the part which it completes
 abbrev pub read_under : {Front I P : Type 0} → Syntax Front I P → ℕ → Verdict P → List I → Reading P
 read_under syntax unit verdict items = reading (judge_by syntax) verdict (place_by unit) [] [] items
 

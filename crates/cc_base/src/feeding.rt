@@ -8,8 +8,8 @@ ghost use Rattle.cc_base.specs.Feeding.{reading};
 use crate::refusal::Refusal;
 use crate::resume::{Resume, Upward};
 
-/// Feeds two pieces in turn, which is to feed both at once: the answer, the parts that the layer above was handed and where
-/// both come to are those of the first piece followed by the second. After a refusal the second piece changes nothing.
+/// Feeds two pieces in turn, which is to feed both at once. The answer, the parts that the layer above was handed and where
+/// both come to are what the first piece followed by the second gives. After a refusal the second piece changes nothing.
 pub fn feed_pieces<I, P, R: Resume<I, P>, U: Upward<P>>(
     reader: &mut R,
     first: &[I],

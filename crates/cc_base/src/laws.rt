@@ -16,8 +16,8 @@ pub fn law_of_pieces<I, P>()
         (above ++ (reading judge verdict place before above first).parts) second) }
 {}
 
-/// A refusal is that of the first refused item: it has the item's place, and its reason is the reader's own or that of a part
-/// which the item completed.
+/// Items are refused at the first refused one: the refusal has this item's place, and its reason is the reader's own or the one
+/// above for a part which the item completed.
 pub fn refusals_are_of_the_first_refused_item<I, P>()
     ensures { (judge : Judge I P) (verdict : Verdict P) (place : List I → ℕ) (before : List I)
         (above : List P) (items : List I)

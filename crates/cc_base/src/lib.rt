@@ -1,6 +1,6 @@
-//! What every layer of the caption suite stands on: sources and sinks of bytes with counts of their faults, readers that can
-//! be fed in any pieces, the reasons of refusals and their places, the limits, and the frame rates of caption distribution
-//! packets.
+//! What every layer of the caption suite stands on: sources and sinks of bytes with counts of their faults, and readers that
+//! can be fed in any pieces. The reasons of refusals and their places, the limits, and the frame rates of caption
+//! distribution packets are here too.
 #![tactic(auto)]
 
 pub use crate::adapters::{ReaderSource, WriterSink};

@@ -35,7 +35,7 @@ pub trait Machine<I, P> {
             → IsTaken result
             → Matches given ((syntax given).after front item) self.new };
 
-    /// Places are told apart.
+    /// Places are distinct.
     ghost unit_is_positive: { 0 < UNIT };
     /// An item has a size.
     ghost item_fits: { FitsInMemory I.row };

@@ -36,8 +36,8 @@ pub trait Resume<I, P> {
     ghost refusal: { Self → Option Refused };
 
     /// Reads the next items. Each part is handed upward as soon as it is whole, in order. An item is refused for its own
-    /// reason, or for that of the part which it completed; the refusal is kept, and answered from then on with nothing read
-    /// and nothing handed upward.
+    /// reason, or for the reason above for the part which it completed; the refusal is kept, and answered from then on with
+    /// nothing read and nothing handed upward.
     ///
     /// Feeding two pieces in turn answers, hands upward and leads to what feeding both at once does.
     fn feed<U: Upward<P>>(&mut self, input: &[I], up: &mut U) -> Result<(), Refusal>

@@ -37,7 +37,7 @@ pub enum Why {
     Header,
     /// No line of an SCC file can continue with this byte.
     SccSyntax,
-    /// An SCC line's time code is before that of the line before.
+    /// An SCC line's time code is before the previous line's.
     Backwards,
     /// A field of a cue list is out of its form or range.
     Field,
@@ -84,8 +84,8 @@ pub enum Why {
 }
 
 impl Why {
-    /// The reason's number: 1 to 13 for words and packets, 14 to 17 for SCC files, 20 to 29 and 31 for cue lists and
-    /// their rules, 32 and 33 for two lists, 34 for MCC files, 40 to 46 for findings.
+    /// The reason's number: 1 to 13 for words and packets, 14 to 17 for SCC files, and 20 to 29 and 31 for cue lists
+    /// and their rules. It is 32 and 33 for two lists, 34 for MCC files, and 40 to 46 for findings.
     pub fn number(self) -> u8
         ensures { result ≡ reason_number self }
     {

@@ -1,4 +1,4 @@
--- The pairs that stand for those of a field, with one frame more.
+-- The pairs that stand for a field's own, with one frame more.
 use Rattle.std.proofs.Common.{◌≡◌, ◌∙◌, List, [], ◌∷◌, ◌++◌, map, reverse, sym, ap, subst, append_assoc, append-nil}
 use Rattle.std.proofs.lemmas.Grind.{flat_map-append}
 use Rattle.std.proofs.lemmas.List.{map-append, reverse-append}

@@ -25,19 +25,19 @@ use line21_screen::{Field, Memory};
 use std::alloc::{AllocError, Global};
 
 /// The receiver of a words file of which frames may be missing, or in which bytes of line 21 have bad parity; the bytes come in any
-/// pieces. It has the screens of line 21 and the windows of the 63 services of DTVCC after the last whole frame, and tells which frame
-/// that is and how many are missing before it (SMPTE ST 334-2, cdp_hdr_sequence_cntr; CTA-608-E; CTA-708-E).
+/// pieces. It has the screens of line 21 and the windows of the 63 services of DTVCC after the last whole frame (CTA-608-E;
+/// CTA-708-E). It tells which frame that is and how many are missing before it (SMPTE ST 334-2, cdp_hdr_sequence_cntr).
 ///
-/// All channels and services are reset at a frame whose counter isn't that of the frame before it plus 1, modulo 65,536. A pair of line 21
-/// counts as null where its first byte has bad parity, or where its second has and the first, without its parity, is from 01 to 1F;
-/// elsewhere a second byte of bad parity counts as 7F, a solid block. It refuses what a `Receiver` refuses, and stays at the last whole
-/// frame then. All memory that it ever takes is taken by `new`.
+/// All channels and services are reset at a frame whose counter isn't the previous frame's plus 1, modulo 65,536. A pair of line 21 counts
+/// as null where its first byte has bad parity, or where its second has and the first, without its parity, is from 01 to 1F. Elsewhere a
+/// second byte of bad parity counts as 7F, a solid block. It refuses what a `Receiver` refuses, and stays at the last whole frame then.
+/// All memory that it ever takes is taken by `new`.
 #[derive(Drop)]
 pub struct Concealer {
     receiver: Receiver,
     first: Field,
     second: Field,
-    // Its own services, and whether it has them: up to the first jump of a counter they are those of the receiver.
+    // Its own services, and whether it has them: up to the first jump of a counter they are the receiver's.
     served: Served,
     apart: bool,
     // The counter of the last whole frame, if there was one.
@@ -95,8 +95,8 @@ impl Concealer {
         }
     }
 
-    /// Says whether the bytes fed may end here: the kept refusal, if there is one; else `Truncated`, at the number of bytes fed, where
-    /// bytes were fed and the last of them doesn't end a packet.
+    /// Says whether the bytes fed may end here. Else it answers the kept refusal, if there is one, or `Truncated`, at the number of
+    /// bytes fed, where bytes were fed and the last of them doesn't end a packet.
     pub fn finish(&self) -> Result<(), Refusal>
         ensures whole { (bytes : List ℕ) → HasConcealed bytes self.now → IsOk result
             → (frames : List Frame) × IsFileUnder caption_channel frames bytes }
@@ -161,8 +161,8 @@ impl Concealer {
         self.receiver.frames()
     }
 
-    /// The number of the last whole frame: the counter of the first one, and for each further one as many more as the difference of the
-    /// counters modulo 65,536 says, with 65,536 in place of 0.
+    /// The number of the last whole frame. It is the counter of the first one, and grows at each further one by the difference of the
+    /// counters modulo 65,536, with 65,536 in place of 0.
     pub fn frame(&self) -> u64
         requires { 0 < concealed_frames self.now }
         ensures { (frames : List Frame) → Conceals frames self.now
@@ -180,7 +180,7 @@ impl Concealer {
         self.missing
     }
 
-    // Whether a counter doesn't go on from that of the last frame.
+    // Whether a counter doesn't go on from the last whole frame's.
     fn jumps(&self, counter: u16) -> bool
         ensures { result ≡ jumps_from self.now.counter counter }
     {
@@ -317,7 +317,7 @@ impl Concealer {
         self.receiver.is_idle()
     }
 
-    /// Whether something that is seen of a service may have changed in the last whole frame, or frames are missing right before it: where
+    /// Whether something that is seen of a service may have changed in the last whole frame, or frames are missing right before it. Where
     /// it says no, all windows of all services are seen as they were before it (CTA-708-E).
     pub fn is_touched(&self) -> bool
         requires { 0 < concealed_frames self.now }

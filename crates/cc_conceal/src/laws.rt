@@ -19,7 +19,7 @@ pub fn whole_is_received()
 {}
 
 /// More bytes that bring no frame leave the frames that are concealed, of which all calls tell, and so all screens. So where a word is
-/// refused, and from then on, the screens, the windows, the number and what is missing stay those of the last whole frame.
+/// refused, and from then on, the screens, the windows, the number and what is missing stay the last whole frame's.
 pub fn refusal_stays()
     ensures frames { (before more : List ℕ) (old new : ConcealerOf) → HasConcealed before old
         → HasConcealed (before ++ more) new → concealed_frames new ≡ concealed_frames old

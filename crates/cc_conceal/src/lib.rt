@@ -1,5 +1,5 @@
-//! A receiver of captions on a line that loses frames: it is reset where the counters of frames jump, and shows a solid block for a byte of
-//! line 21 that it can't read (SMPTE ST 334-2, cdp_hdr_sequence_cntr; CTA-608-E; CTA-708-E).
+//! A receiver of captions on a line that loses frames. It is reset where the counters of frames jump (SMPTE ST 334-2,
+//! cdp_hdr_sequence_cntr), and shows a solid block for a byte of line 21 that it can't read (CTA-608-E; CTA-708-E).
 #![tactic(auto)]
 
 mod concealer;

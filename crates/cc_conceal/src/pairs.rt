@@ -26,8 +26,8 @@ fn begins_no_text(byte: u8) -> bool
     low >= 0x01 && low < 0x20
 }
 
-// The pair that stands for one, of which bytes may have bad parity: null, where the first byte has it, or where that is from 01 to 1F and the
-// second has it; and with a solid block as the second byte, where that alone has it.
+// The pair that stands for one, of which bytes may have bad parity. It is null where the first byte has it, or where that is from 01 to 1F
+// and the second has it. It has a solid block as the second byte where that alone has it.
 fn concealed(pair: Pair) -> Pair
     ensures { result ≡ concealed pair }
 {

@@ -129,7 +129,7 @@ front_taken triplets kept has within =
     ∙ take-append-le (length front) front others (omega arith) ∙ take-length front in
     subst (λ ts. HasFront ts triplets) (sym own) has.has_front
 
--- those of a front are all pairs
+-- the pairs of a front are all pairs
 pub front_pairs : (in_field : FieldNumber) (front triplets : List Triplet) → HasFront front triplets → length triplets ≤ 81
     → (length front ≤ 81) × (field_pairs in_field front ≡ field_pairs in_field triplets)
 front_pairs in_field front triplets has few =

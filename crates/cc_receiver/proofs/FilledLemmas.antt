@@ -12,7 +12,7 @@ use Rattle.cc_receiver.proofs.GatheredLemmas.{section_few}
 abbrev pub read_as : List ℕ → Triplet
 read_as bytes = triplet_of (get_or bytes 0 0) (get_or bytes 1 0) (get_or bytes 2 0)
 
--- the triplets that were taken lead to a goal by those of the sections that are left
+-- the triplets that were taken lead to a goal by the triplets of the sections that are left
 pub record IsOnTheWay (goal : List Triplet) (rest : List ℕ) (Has : List Triplet → Type 0) : Type 0 where
   pub cut : List (List ℕ)
   pub are : AreSections cut

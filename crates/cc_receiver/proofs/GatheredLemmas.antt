@@ -230,7 +230,7 @@ pairs_few in_field (t ∷ triplets) =
     let long = length-append (field_pair in_field t) (field_pairs in_field triplets) in
     omega (arith, one, few, long)
 
--- those of one more triplet
+-- the pairs of one more triplet
 pub pairs_one_more : (in_field : FieldNumber) (triplets : List Triplet) (t : Triplet) → length triplets < 81
     → pair_more (field_pairs in_field triplets) (field_pair in_field t) ≡ field_pairs in_field (triplets ++ t ∷ [])
 pairs_one_more in_field triplets t room =

@@ -24,7 +24,7 @@ pub record Fits (frame : Frame) : Type 0 where
   pub are : AreSections frame.sections
   pub few : length (concat frame.sections) ≤ 244
 
--- so do those of all frames
+-- so do the sections of all frames
 abbrev pub AllFit : List Frame → Type 0
 AllFit [] = Unit {0}
 AllFit (frame ∷ frames) = Fits frame × AllFit frames

@@ -13,7 +13,7 @@ use Rattle.services_files.proofs.WholeFileLemmas.{frames_whole}
 use Rattle.cc_receiver.specs.Channels.{HasHeard, HasTried, frames_parts}
 use Rattle.cc_receiver.specs.declared.channel.Channel.{Channel}
 
--- those of one more part
+-- the triplets of one more part
 one_more : (before : List CdpPart) (next : CdpPart) → whole_triplets (before ++ next ∷ []) ≡ whole_triplets before ++ whole_triplet next
 one_more before next = whole_triplets-append before (next ∷ []) ∙ ap (λ ts. whole_triplets before ++ ts) (append-nil (whole_triplet next))
 

@@ -29,7 +29,7 @@ use Rattle.cc_receiver.specs.Receivers.{HasReceived, displayed_grid, field_in, r
 use Rattle.cc_receiver.proofs.GatheredLemmas.{packet_gathered}
 use Rattle.cc_receiver.proofs.HeardLemmas.{AllFit, Fits, frames_of_fit, heard_frames}
 
--- the refusal that is kept is that of the bytes
+-- the refusal that is kept is the bytes' refusal
 pub kept_is : (bytes : List ℕ) (receiver : Receiver) → HasReceived bytes receiver → receiver_refusal receiver ≡ refusal_of services_say bytes
 kept_is bytes receiver had =
     let cases : (refusal : Option Refusal) → refusal_of services_say bytes ≡ refusal → receiver_refusal receiver ≡ refusal = elim [

@@ -15,7 +15,7 @@ use Rattle.cc_receiver.proofs.ReceivedLemmas.{shown_received}
 use Rattle.cc_receiver.proofs.SeenLemmas.{windows_received}
 use Rattle.cc_receiver.proofs.TakenLemmas.{frames_count}
 
--- the frames of bytes, which are those of more bytes too
+-- the frames of bytes, which are the frames of more bytes too
 record SameFrames (before after : List ℕ) : Type 0 where
   frames : List Frame
   first : AreFramesOf caption_channel frames before

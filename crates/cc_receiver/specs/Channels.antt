@@ -12,7 +12,7 @@ use Rattle.service_blocks.specs.Readers as blocks
 use Rattle.services_files.specs.Services.{whole_triplets}
 use Rattle.cc_receiver.specs.declared.channel.Channel.{Channel}
 
--- the readers took these triplets and refused none: the one of packets those of channel packets, and the one of blocks what they make
+-- the readers took these triplets and refused none: the packet reader the channel packets' triplets, the block reader what they make
 pub record HasHeard (triplets : List Triplet) (channel : Channel) : Type 0 where
   pub packets_read : packets.HasRead (channel_triplets triplets) channel.packets
   pub blocks_read : blocks.HasRead (parts_of packet_syntax triplets) channel.blocks

@@ -12,6 +12,6 @@ abbrev pub seen_of_member : Option Member → ℕ → Option ShownWindow
 seen_of_member None id = None
 seen_of_member (Some member) id = grids (screen_in member.core) id
 
--- what is seen of those of each service from 1 on, by the service and the window's id
+-- what is seen of the windows of each service from 1 on, by the service and the window's id
 abbrev pub seen_windows : Receiver → ℕ → ℕ → Option ShownWindow
 seen_windows receiver service id = seen_of_member (slice_get receiver.captions.served.services.members.items (service - 1)) id

@@ -1,6 +1,6 @@
 -- Believed: the library's answers stand on these definitions.
 -- What whole frames give the services of DTVCC (CTA-708-E, sections 5 to 7): in each frame a tick of its rate, and then what its triplets
--- say after those of the frames before.
+-- say after the earlier frames'.
 use Rattle.std.specs.Prelude.{◌≡◌, List, [], ◌∷◌, ◌++◌, length}
 use Rattle.cc_base.specs.declared.rate.Rate.{Rate}
 use Rattle.cc_data.specs.declared.triplet.Triplet.{Triplet}
@@ -25,7 +25,7 @@ followed_by earlier last service = earlier service ++ last service
 abbrev pub given_by : Rate → List Triplet → List Triplet → Events
 given_by rate before triplets service = Tick rate ∷ events_of service (heard_behind before triplets)
 
--- the readers took these triplets, and the services these events: those of the frames before the last one, and those of the last
+-- the readers took these triplets, and the services these events: the earlier frames', and the last one's
 pub record HasServed (triplets : List Triplet) (earlier last : Events) (served : Served) : Type 0 where
   pub heard : HasHeard triplets served.channel
   pub leads : Leads earlier last served.services

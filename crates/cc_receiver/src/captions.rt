@@ -35,7 +35,7 @@ pub(crate) struct Captions {
     pub(crate) open: Option<CdpReader>,
     /// What the open packet says so far.
     pub(crate) gathered: Frame,
-    /// What judges the triplets of the open packet, after those of the whole frames.
+    /// What judges the triplets of the open packet, after the whole frames'.
     pub(crate) judging: Channel,
     /// What the last whole frame says.
     pub(crate) last: Frame,
@@ -216,7 +216,7 @@ impl Captions {
         self.again(packet)
     }
 
-    // Takes a whole packet whose sections are those of the last frame: what that says of them is not read again. Says whether
+    // Takes a whole packet whose sections are the last frame's: what that says of them is not read again. Says whether
     // nothing is refused; else nothing has changed.
     fn again(&mut self, packet: WholePacket<'_>) -> bool
         requires few { length packet.sections.now ≤ 244 }

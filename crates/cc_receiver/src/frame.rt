@@ -66,7 +66,7 @@ pub(crate) struct Frame {
     pub(crate) pairs_one: ArrayVec<Pair, 81>,
     /// The pairs of field 2 among the triplets that count, in order.
     pub(crate) pairs_two: ArrayVec<Pair, 81>,
-    /// Whether a whole packet was read: the triplets and the pairs are those of the sections.
+    /// Whether a whole packet was read: the triplets and the pairs are the sections'.
     pub(crate) whole: bool,
     pub ghost of_sections: { whole ≡ true → AreOfSections sections.items triplets pairs_one.items pairs_two.items },
 }

@@ -12,7 +12,7 @@ ghost use Rattle.cc_receiver.specs.SeenServices.{seen_windows};
 ghost use Rattle.cc_receiver.specs.declared.receiver.Receiver.{Receiver as ReceiverOf};
 ghost use Rattle.cc_receiver.specs.Receivers.{HasReceived, displayed_grid, frame_count};
 
-/// A receiver counts the frames of the bytes that it was fed, in whatever pieces, and shows what they leave on the screens of a
+/// A receiver counts the frames of the bytes that it was fed, in whatever pieces. It shows what they leave on the screens of a
 /// receiver that was reset before the first one, and of the windows of its services.
 pub fn receiver_equals_meaning()
     ensures count { (bytes : List ℕ) (frames : List FrameOf) (receiver : ReceiverOf)
@@ -29,7 +29,7 @@ pub fn receiver_equals_meaning()
 {}
 
 /// More bytes that bring no frame leave all screens, and the windows of each service. So where a word is refused, and from then on,
-/// they stay those of the last whole frame.
+/// they stay as the last whole frame left them.
 pub fn refusal_stays()
     ensures shown { (before more : List ℕ) (old new : ReceiverOf) (chan : Chan)
         → HasReceived before old

@@ -1,5 +1,5 @@
-//! The receiver of captions: from the bytes of a words file, in any pieces, to the screens of line 21 and the windows of the 63
-//! services of DTVCC (SMPTE ST 291-1, ST 334-1 and ST 334-2; CTA-608-E; 47 CFR 79.101; CTA-708-E).
+//! The receiver of captions. It reads the bytes of a words file, in any pieces (SMPTE ST 291-1, ST 334-1 and ST 334-2). It has
+//! the screens of line 21 (CTA-608-E; 47 CFR 79.101) and the windows of the 63 services of DTVCC (CTA-708-E).
 #![tactic(auto)]
 
 mod captions;

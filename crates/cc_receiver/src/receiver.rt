@@ -52,8 +52,9 @@ pub struct Fed {
     pub ended: Ended,
 }
 
-/// The receiver of a words file, whose bytes come in any pieces: the screens of line 21 and the windows of the 63 services of DTVCC
-/// after the last whole frame, and what that frame says (SMPTE ST 291-1, ST 334-1 and ST 334-2; CTA-608-E; CTA-708-E; 47 CFR 79.101).
+/// The receiver of a words file, whose bytes come in any pieces (SMPTE ST 291-1, ST 334-1 and ST 334-2). After the last whole frame
+/// it has the screens of line 21 (CTA-608-E; 47 CFR 79.101), the windows of the 63 services of DTVCC (CTA-708-E), and what that frame
+/// says.
 ///
 /// A packet of captions acts when it ends, after a good checksum word, and other packets change nothing. After a refusal the
 /// receiver stays at the last whole frame. All memory that it ever takes is taken by `new`.
@@ -84,9 +85,10 @@ impl Receiver {
     /// Reads the next bytes, up to the end of an ancillary packet: it stops after the word that ends one. Fewer than
     /// 4,294,967,295 frames have ended before.
     ///
-    /// A word is refused where no file can continue with it: for its high bits, the flag, its parity or the checksum (SMPTE
-    /// ST 291-1), in this order, or, in a packet of captions, as a byte of its distribution packet (SMPTE ST 334-2). The
-    /// place is the number of the word's first byte. A refusal is kept and answered from then on, with nothing read.
+    /// A word is refused where no file can continue with it: for its high bits, the flag, its parity or the checksum, in
+    /// this order (SMPTE ST 291-1). In a packet of captions it is also refused as a byte of its distribution packet (SMPTE
+    /// ST 334-2). The place is the number of the word's first byte. A refusal is kept and answered from then on, with
+    /// nothing read.
     pub fn feed(&mut self, bytes: &[u8]) -> Result<Fed, Refusal>
         requires few { frame_count self.now < 4294967295 }
         ensures feeds { (before : List ℕ) → HasReceived before self.old
@@ -193,8 +195,8 @@ impl Receiver {
         self.words.feed(piece, &mut self.captions)
     }
 
-    /// Says whether the bytes fed may end here: the kept refusal, if there is one; else `Truncated`, at the number of bytes
-    /// fed, where bytes were fed and the last of them doesn't end a packet.
+    /// Says whether the bytes fed may end here. Else it answers the kept refusal, if there is one, or `Truncated`, at the
+    /// number of bytes fed, where bytes were fed and the last of them doesn't end a packet.
     pub fn finish(&self) -> Result<(), Refusal>
         ensures kept { (refused : Refused) → receiver_refusal self.now ≡ Some refused
             → result_err result ≡ Some refused }
@@ -394,7 +396,7 @@ impl Receiver {
         self.captions.last.triplets.front()
     }
 
-    /// The pairs of field 1 of the last whole frame, where there is one, in order: those of its triplets that count
+    /// The pairs of field 1 of the last whole frame, where there is one, in order, from the triplets that count
     /// (CTA-708-E, cc_data()).
     pub fn pairs_one(&self) -> &[Pair]
         requires { 0 < frame_count self.now }
@@ -406,7 +408,7 @@ impl Receiver {
         self.captions.last.pairs_one.as_slice()
     }
 
-    /// The pairs of field 2 of the last whole frame, where there is one, in order: those of its triplets that count
+    /// The pairs of field 2 of the last whole frame, where there is one, in order, from the triplets that count
     /// (CTA-708-E, cc_data()).
     pub fn pairs_two(&self) -> &[Pair]
         requires { 0 < frame_count self.now }

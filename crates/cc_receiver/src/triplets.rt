@@ -13,7 +13,7 @@ use cdp_packets::{split_section, triplet_bytes};
 
 /// The triplets of a packet, in order. A packet has at most 255 bytes, eleven of them around the sections, and three are a triplet.
 ///
-/// They stand in the value itself, and those of the packet before are written over: to clear them and to copy them costs no more than
+/// They stand in the value itself, and the previous packet's are written over: to clear them and to copy them costs no more than
 /// there are.
 #[derive(Drop)]
 pub(crate) struct Triplets {
@@ -78,7 +78,7 @@ impl Triplets {
         self.until = other.until;
     }
 
-    // Puts triplets after the others, none of which is told to count.
+    // Puts triplets after the others, none of which is known to count.
     fn append(&mut self, triplets: &[Triplet])
         requires { self.old.len + length triplets.now ≤ 81 }
         ensures items { take self.new.len self.new.cells

@@ -5,7 +5,7 @@
 pub enum Calls {
     /// The takes of the input.
     Takes,
-    /// Those of the side file.
+    /// The takes of the side file.
     Side,
     /// The puts to the output.
     Puts,

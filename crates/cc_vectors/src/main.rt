@@ -4,16 +4,16 @@
 //! A line is a word and the rest after a blank. Empty lines, and those that begin with `#`, are for readers. `row NAME` begins a row, with
 //! everything as at the start: nothing is held, there is no side file, and no output is due.
 //!
-//! These change the bytes that are held: `line TEXT` adds a line, `text TEXT` the same without its end, `hex DIGITS` bytes, `times N DIGITS` bytes so
-//! often, and `packet DIGITS` the packet of captions that carries a distribution packet, given without its last byte; `set AT DIGITS` puts bytes over
-//! others, `drop AT COUNT` takes some away, and `hold` holds what the last run put. `side` makes the bytes that are held the side file, and `due` the
-//! output that is due; `keep N` has the first bytes that the last run put be due.
+//! These change the bytes that are held. `line TEXT` adds a line, `text TEXT` the same without its end, `hex DIGITS` bytes, and `times N DIGITS`
+//! bytes N times over. `packet DIGITS` adds the packet of captions that carries a distribution packet, given without its last byte. `set AT DIGITS`
+//! puts bytes over others, `drop AT COUNT` takes some away, and `hold` holds what the last run put. `side` makes the bytes that are held the side
+//! file, and `due` the output that is due; `keep N` has the first bytes that the last run put be due.
 //!
 //! `piece N`, `room N` and `failing takes|side|puts|line N ..` say the most bytes of each take of the next run, the room of its output, and which of its
 //! calls fail, counted from 0. `silent` leaves its output out of what is printed.
 //!
 //! `run WORD ..` runs the program on the bytes that are held, and `run|WORD|WORD ..` does so with words that may have blanks. `feed WORD ..` runs it too,
-//! and holds what the run put. `cut AT EVERY COUNT` prints parts of what the last run put, and `low AT EVERY COUNT` the low bytes of the words in each
+//! and holds what the run put. `cut AT EVERY COUNT` prints parts of what the last run put. `low AT EVERY COUNT` prints the low bytes of the words in each
 //! part, after the number of such parts that come one after another.
 #![tactic(auto)]
 

@@ -36,7 +36,7 @@ pub is_up : (frame : ℕ) (cues : List Cue) (cue : Cue) (earlier : List Cue) →
 is_up frame cues cue earlier are up =
     ap (shown_of_newest frame) are ∙ ap (λ b. if b then blank else shown_from cue.kind cue earlier) up
 
--- a row among those of a chain, and one that isn't
+-- a row among the rows of a chain, and one that isn't
 pub row_in : (rows base : ℕ) (chain : List Cue) (row column : ℕ) → row ≤ base → base - row < rows
     → chain_rows rows base chain row column ≡ cells_of_cue (slice_get chain (base - row)) base column
 row_in rows base chain row column le lt =
@@ -58,7 +58,7 @@ row_below rows base chain row column lt =
     let first : nat_le row base ≡ false = grind arith in
     ap (λ b. if b && nat_lt base (row + rows) then cells_of_cue (slice_get chain (base - row)) base column else None) first
 
--- a chain's first place is its last cue, and the others are those of the chain that it continues, if it does
+-- a chain's first place is its last cue, and the others are the places of the chain that it continues, if it does
 pub chain_first : (cue : Cue) (earlier : List Cue) → slice_get (chain_of cue earlier) 0 ≡ Some cue
 chain_first cue [] = refl
 chain_first cue (former ∷ earlier) = refl
@@ -83,7 +83,7 @@ chain_goes_on cue former earlier before (suc places) are on some =
     (ap (λ (cs : List Cue). slice_get (chain_of cue cs) (suc places)) are
     ∙ ap (λ b. slice_get (if b then chain_of former before else []) places) on)
 
--- a number below that of cues is the number of one
+-- a number below the count of cues is the number of one
 pub cue_is : (cues : List Cue) (number : ℕ) → number < length cues → (cue : Cue) × (slice_get cues number ≡ Some cue)
 cue_is [] number within = absurd (omega arith)
 cue_is (cue ∷ cues) zero within = (cue, refl)

@@ -49,7 +49,7 @@ pub window_seen : (got : Option (Bor Window)) (window : Option WindowState) → 
 window_seen None window is = sym (ap shown is)
 window_seen (Some got) window is = ap shown is
 
--- before the next change the windows show the same; those of other services show nothing
+-- before the next change the windows show the same; other services' windows show nothing
 pub same_windows : (service id former frame : ℕ) (cues : List Cue) → IsService service → id < 8 → All IsCueFormed cues → SameWindows cues former frame
     → authored_windows service cues frame id ≡ authored_windows service cues former id
 same_windows service id former frame cues is within formed same = elim (cases_lt 6 service) [

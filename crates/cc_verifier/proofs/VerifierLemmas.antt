@@ -32,7 +32,7 @@ verified_still before more old new had now counted = record {
   goes_on = λ nothing. goes_on_still had.frames old new (had.goes_on nothing);
 }
 
--- a file is that of the frames
+-- a file is the file of the frames
 pub file_is : (bytes : List ℕ) (verifier : Verifier) (had : HasVerified bytes verifier) → ((frames : List Frame) × IsFileUnder caption_channel frames bytes)
     → IsFileUnder caption_channel had.frames bytes
 file_is bytes verifier had (frames, file) =

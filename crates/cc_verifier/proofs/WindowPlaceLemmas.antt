@@ -48,7 +48,7 @@ none_later service id frame cue (other ∷ later) are before =
     let hidden = to_come_hidden service id frame other (λ has. let h : cue.show < other.show = are.0 has in omega arith) in
     ap (λ b. if b then Some other else find (shows_in service id frame) later) hidden ∙ none_later service id frame cue later are.1 before
 
--- the window is that of the cue at which it stands, from its SHOW on
+-- the window is the window of the cue at which it stands, from its SHOW on
 pub authored_at : (service id frame : ℕ) (cues : List Cue) (place : ℕ) → AreInTurn service id cues
     → ((k : ℕ) → k < place → IfSome (slice_get cues k) (IsOver service id frame)) → IfSome (slice_get cues place) (IsToHide service id frame)
     → authored_windows service cues frame id ≡ shown_by frame (slice_get cues place)

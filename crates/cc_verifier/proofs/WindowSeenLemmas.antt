@@ -1,4 +1,4 @@
--- When a window is seen as that of a cue.
+-- When a window is seen as a cue's.
 use Rattle.std.proofs.Common.{◌≡◌, ◌∙◌, ℕ, ◌+◌, ◌<◌, ◌≤◌, ◌==◌, nat_le, nat_lt, Bool, true, false, List, [], ◌∷◌, length, ap, arith, refl, sym}
 use Rattle.std.specs.Prelude.{◌&&◌, All, IfSome, IsTrue, None, Some, if◌then◌else◌, unwrap_or}
 use Rattle.std.proofs.Math.Path.{fun_ext}

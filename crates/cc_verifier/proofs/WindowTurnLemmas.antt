@@ -88,6 +88,6 @@ in_turn list service id (cue ∷ later) formed sound = by_test (is_of_service se
       rest sound,
     )
 
--- those of each window are in turn
+-- the cues of each window are in turn
 pub ruled_in_turn : (list : Listing) → IsFormed list → IsRuled list → AreAllInTurn list.cues
 ruled_in_turn list formed ruled service id = in_turn list service id list.cues formed.cues ((lanes_ruled list ruled).services service)

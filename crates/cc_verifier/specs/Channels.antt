@@ -25,7 +25,7 @@ abbrev pub IsFirstOther : List Cue → ℕ → (Chan → Grid) → Option Chan �
 IsFirstOther cues frame screens None = (channel : Chan) → ShowsOther cues frame screens channel → ⊥
 IsFirstOther cues frame screens (Some channel) = IsFirstChannel cues frame screens channel
 
--- the check of each channel is that of the channel, and stands at a frame
+-- each channel's check is its own, and stands at a frame
 pub record AreReady (cues : List Cue) (frame : ℕ) (checks : ChannelChecks) : Type 0 where
   pub cc1 : IsReadyToCheck cues frame checks.cc1
   pub cc2 : IsReadyToCheck cues frame checks.cc2

@@ -12,7 +12,7 @@ use Rattle.cue_types.specs.Channels.{cues_on}
 use Rattle.cue_types.specs.declared.cue.Cue.{Cue}
 use Rattle.cc_verifier.specs.declared.channel_check.ChannelCheck.{ChannelCheck}
 
--- it is that of the channel, and stands at the frame; where it says that the channel agrees, the channel showed this grid at the
+-- it is the channel's, and stands at the frame; where it says that the channel agrees, the channel showed this grid at the
 -- frame before, and that is what is authored at this frame
 pub record Knows (channel : Chan) (cues : List Cue) (frame : ℕ) (former : Grid) (check : ChannelCheck) : Type 0 where
   pub channel_is : cursor_channel check.cursor ≡ channel

@@ -17,7 +17,7 @@ use Rattle.findings.specs.declared.finding.Which.TheVariants as which
 use Rattle.cc_verifier.specs.Differing.{ShowsOther, ShowsOtherWindow}
 use Rattle.words_files.specs.Received.{received_grids}
 
--- the counter doesn't go on from that of the frame before
+-- the counter doesn't go on from the previous frame's
 pub record Jumps (earlier : List Frame) (last : Frame) (expected seen : ℕ) : Type 0 where
   pub before : List Frame
   pub former : Frame
@@ -26,7 +26,7 @@ pub record Jumps (earlier : List Frame) (last : Frame) (expected seen : ℕ) : T
   pub seen_is : seen ≡ last.counter
   pub others : seen ≢ expected
 
--- the number of triplets, those too that don't count, isn't that of the packet's rate
+-- the number of triplets, with those that don't count, isn't the number at the packet's rate
 pub record Miscounts (last : Frame) (expected seen : ℕ) : Type 0 where
   pub expected_is : expected ≡ triplets_in_frame last.rate
   pub seen_is : seen ≡ length (packet_triplets last)
@@ -44,8 +44,8 @@ IsFound list earlier last (kind.GridDiffers (which.Service service)) =
 IsFound list earlier last (kind.TwoPairs seen) = ⊥
 IsFound list earlier last kind.EightBits = ⊥
 
--- the order in which they are tried: counter, count, rate, buffers by their services, then the grids of CC1 to CC4 and those of
--- the services
+-- the order in which they are tried: counter, count, rate, buffers by their services, then the grids of CC1 to CC4 and the
+-- services' windows
 abbrev pub place_of : Kind45 → ℕ
 place_of (kind.CounterJump expected seen) = 0
 place_of (kind.WrongCount expected seen) = 1
@@ -63,7 +63,7 @@ IsClean list earlier last = (found : Kind45) → IsFound list earlier last found
 abbrev pub AreClean : Listing → List Frame → Type 0
 AreClean list frames = (earlier : List Frame) (last : Frame) (later : List Frame) → frames ≡ earlier ++ last ∷ later → IsClean list earlier last
 
--- the first finding of frames: that of the first frame at which something is found
+-- the first finding of frames: the finding at the first frame at which something is found
 pub record FirstFinding (list : Listing) (frames : List Frame) (finding : Finding) : Type 0 where
   pub earlier : List Frame
   pub last : Frame

@@ -9,12 +9,12 @@ use Rattle.cue_types.specs.declared.cue.Cue.{Cue}
 abbrev pub IsLater : ℕ → ℕ → Cue → Cue → Type 0
 IsLater service id cue other = uses_window service id other.kind ≡ true → cue.show < other.show
 
--- each cue of the window is shown before those of its cues that follow it
+-- each cue of the window is shown before its later cues
 abbrev pub AreInTurn : ℕ → ℕ → List Cue → Type 0
 AreInTurn service id [] = ⊤
 AreInTurn service id (cue ∷ later) =
     (uses_window service id cue.kind ≡ true → AllByRecursion (IsLater service id cue) later) × AreInTurn service id later
 
--- so are those of each window
+-- so are the cues of each window
 abbrev pub AreAllInTurn : List Cue → Type 0
 AreAllInTurn cues = (service id : ℕ) → AreInTurn service id cues

@@ -24,7 +24,7 @@ pub fn cell_at(cues: &[Cue], line: Option<Line>, column: u8) -> Option<Cell>
     cell_of(cue.runs.as_slice(), line.row, column)
 }
 
-/// The cell of runs at a row and a column: that of the run that covers the place.
+/// The cell of runs at a row and a column: the cell of the run that covers the place.
 fn cell_of(runs: &[Run], row: u8, column: u8) -> Option<Cell>
     ensures { result ≡ cells_of runs.now row column }
 {

@@ -30,11 +30,11 @@ pub enum Verdict {
 
 /// The verifier of a words file, whose bytes come in any pieces, against a cue list: it finds the first finding of its frames.
 ///
-/// At each whole frame it tries, in this order, whether the counter goes on from that of the frame before, whether the number of
-/// triplets is that of the packet's rate, whether the rate is the list's, whether the held bytes of no service reached 128, and
-/// whether the screens of CC1 to CC4, where the frame is settled for them, and the windows of services 1 to 63 are those that are
-/// authored; after the list's last frame too (SMPTE ST 334-2; CTA-708-E, cc_data() and Delay; CTA-608-E; 47 CFR 79.101). All memory
-/// that it ever takes is taken by `new`.
+/// At each whole frame it tries, in this order, whether the counter goes on from the previous frame's (SMPTE ST 334-2), and whether
+/// there are as many triplets as at the packet's rate (CTA-708-E, cc_data()). Then it tries whether the rate is the list's, and
+/// whether the held bytes of no service reached 128 (CTA-708-E, Delay). Last it tries whether the screens of CC1 to CC4, where the
+/// frame is settled for them, are those that are authored (CTA-608-E; 47 CFR 79.101). So it does with the windows of services 1 to
+/// 63, and after the list's last frame too. All memory that it ever takes is taken by `new`.
 #[derive(Drop)]
 pub struct Verifier {
     receiver: Receiver,
@@ -206,7 +206,7 @@ impl Verifier {
         }
     }
 
-    /// Goes on after the frame that ended last, to that of this number.
+    /// Goes on after the frame that ended last, to the frame of this number.
     fn advance(&mut self, frame: u32)
         requires some { 0 < verified_frames self.now }
         requires ready { (former : ℕ) × (frame ≡ former + 1) × IsReadyAt former self.now }
@@ -240,8 +240,8 @@ impl Verifier {
         self.receiver.frames()
     }
 
-    /// How the words are judged, if they end here: the finding, where there is one; else the refusal of words that are malformed
-    /// or may not end here, as the receiver's; else that there are too few frames; else Ok.
+    /// How the words are judged, if they end here. It is the finding, where there is one; else the refusal of words that are
+    /// malformed or may not end here, as the receiver's. Else it is that there are too few frames, or Ok.
     pub fn verdict(&self) -> Result<Verdict, Refusal>
         ensures { (bytes : List ℕ) → HasVerified bytes self.now
             → JudgesFile (list_of self.now) bytes result }

@@ -6,7 +6,7 @@ use cue_types::{Pen, Run};
 use dtvcc_codes::PenAttr;
 use dtvcc_windows::{DCell, pen_style};
 
-/// The cell of a window's runs at a row and a column, in a pen style, 1 to 7: that of the run that has the place.
+/// The cell of a window's runs at a row and a column, in a pen style, 1 to 7: the cell of the run that has the place.
 pub(crate) fn written_cell(style: u8, runs: &[Run], row: u8, column: u8) -> Option<DCell>
     requires from { 1 ≤ style }
     requires to { style ≤ 7 }
@@ -53,7 +53,7 @@ fn character_at(run: &Run, column: u8) -> char
     }
 }
 
-/// A run's own italics and underline in place of those of a pen style.
+/// A run's own italics and underline in place of a pen style's.
 fn written_as(style: PenAttr, pen: Pen) -> PenAttr
     ensures { result ≡ as_written style pen }
 {

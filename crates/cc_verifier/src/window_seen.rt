@@ -12,7 +12,7 @@ use cue_types::{Cue, Kind, Run, WinCue};
 use dtvcc_codes::{Definition, WinAttr};
 use dtvcc_windows::{Window, window_style};
 
-/// Whether a received window, where there is one, is seen otherwise than that of a cue, or than none where no cue is to be shown
+/// Whether a received window, where there is one, is seen otherwise than a cue's, or than none where no cue is to be shown
 /// (CTA-708-E, caption windows).
 pub fn window_differs(window: Option<&Window>, cue: Option<&Cue>) -> bool
     requires live { IsLive window }
@@ -36,7 +36,7 @@ fn is_seen(window: Option<&Window>) -> bool
     }
 }
 
-/// Whether a window is seen otherwise than that of a cue; a cue of line 21 has none.
+/// Whether a window is seen otherwise than a cue's; a cue of line 21 has none.
 fn differs_from_cue(window: Option<&Window>, cue: &Cue) -> bool
     requires live { IsLive window }
     requires formed { IsCueFormed cue.now }
@@ -85,7 +85,7 @@ fn looks_other(window: &Window, own: WinCue, runs: &[Run]) -> bool
     has_other_cell(window, own, runs)
 }
 
-/// Whether some cell of a window is another one than that of runs.
+/// Whether some cell of a window is another one than the runs'.
 fn has_other_cell(window: &Window, own: WinCue, runs: &[Run]) -> bool
     requires live { IsTrue (is_live window.now) }
     requires formed { IsFormedWindow own runs.now }
@@ -152,7 +152,7 @@ fn cue_part(own: WinCue) -> Definition
     }
 }
 
-/// The attributes of a cue's window: its own, or else those of its window style.
+/// The attributes of a cue's window: its own, or else its window style's.
 fn attributes_of(own: WinCue) -> WinAttr
     requires from { 1 ≤ own.ws }
     requires to { own.ws ≤ 7 }

@@ -24,7 +24,7 @@ pub begins : {E : Type 0} (conceals : Bool) (result : Result Receiving E)
 begins conceals (Ok made) kind fed grids windows = record { kind = kind; fed = fed; grids = grids; windows = windows }
 begins conceals (Err error) kind fed grids windows = tt
 
--- where nothing is found, and where the code isn't 0, it is told as of a receiver
+-- where nothing is found, and where the code isn't 0, the answer tells what a receiver's does
 pub tells_none : (answer : Result Fed FeedFault) (found : Bool) (code : ℕ) (told : FedBytes) → found ≡ false → TellsFed answer code told → TellsVerified answer found code told
 tells_none answer true code told none tells = absurd (cc)
 tells_none (Ok fed) false code told none tells = tells

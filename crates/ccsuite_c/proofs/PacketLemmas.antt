@@ -19,7 +19,7 @@ lacked : (bytes before after : List ℕ) (code count : ℕ) → HandsOver bytes 
 lacked bytes before after code count (inl given) other = absurd (other given.0)
 lacked bytes before after code count (inr lacks) other = lacks
 
--- what is told of a packet is what it says
+-- what the answer tells of a packet is what the packet says
 seen-is : (words : List ℕ) (frame : FrameData) (says : SaysFrame words frame)
     → packet_seen frame.rate frame.counter frame.flags ≡ packet_seen says.carried.packet.rate says.carried.packet.counter says.carried.packet.flags
 seen-is words frame says =
@@ -28,14 +28,14 @@ seen-is words frame says =
     ∙ ap (λ (counter : ℕ). packet_seen packet.rate counter frame.flags) says.counter
     ∙ ap (λ (flags : ℕ). packet_seen packet.rate packet.counter flags) says.flags
 
--- the triplets of a packet are handed out, and what else it says is told
+-- the triplets of a packet are handed out, with what else it says
 pub told-out : (words : List ℕ) (frame : FrameData) (says : SaysFrame words frame) (bytes before after : List ℕ) (code count : ℕ) (old new : PacketSeen)
     → bytes ≡ frame.cc_data.items → HandsOver bytes before after code count → code ≡ 0 → new ≡ packet_seen frame.rate frame.counter frame.flags
     → CcDataAnswer says.carried.packet before after code count old new
 told-out words frame says bytes before after code count old new are hands is told =
     inl (is, subst (λ (it : List ℕ). TextStands it before after count) (are ∙ says.cc_data) (handed bytes before after code count hands is), told ∙ seen-is words frame says)
 
--- or they lack room, and nothing is told
+-- or they lack room, and nothing else is answered
 pub told-none : (words : List ℕ) (frame : FrameData) (says : SaysFrame words frame) (bytes before after : List ℕ) (code count : ℕ) (old : PacketSeen)
     → bytes ≡ frame.cc_data.items → HandsOver bytes before after code count → (code ≡ 0 → ⊥)
     → CcDataAnswer says.carried.packet before after code count old old

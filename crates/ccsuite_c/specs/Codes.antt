@@ -1,5 +1,5 @@
 -- Believed: the library's answers stand on these definitions.
--- The codes of a call on a handle: those of the program's statuses, and four of its own.
+-- The codes of a call on a handle: the program's statuses, and four of its own.
 use Rattle.std.specs.Prelude.{ℕ}
 
 -- an argument is out of its range

@@ -22,7 +22,7 @@ pub record HoldsCells {A : Type 0} (count : ℕ) (cell_at : ℕ → A) (before a
 abbrev pub grid_cell : Grid → ℕ → TextCell
 grid_cell grid place = text_cell (grid (place / 32 + 1) (place % 32))
 
--- all of them, those of 15 rows
+-- all of them, the cells of 15 rows
 abbrev pub HoldsGrid : Grid → List TextCell → List TextCell → Type 0
 HoldsGrid grid before after = HoldsCells 480 (grid_cell grid) before after
 
@@ -38,14 +38,14 @@ window_grid_cell window place = window_cell (window.cells (place / window.defini
 abbrev pub HoldsWindow : WindowState → List WindowCell → List WindowCell → Type 0
 HoldsWindow window before after = HoldsCells (cell_count window) (window_grid_cell window) before after
 
--- all cells of a channel are told, or there is no such channel, or too little room
+-- all cells of a channel are given, or there is no such channel, or too little room
 abbrev pub GridAnswer : Reception → List Frame → ℕ → ℕ → List TextCell → List TextCell → Type 0
 GridAnswer reception frames channel code before after =
     ((code ≡ 0) × ((chan : Chan) × (chan_of channel ≡ Some chan) × HoldsGrid (grids_behind reception frames chan) before after))
     ⊎ (((code ≡ argument_code) × (chan_of channel ≡ None) × (after ≡ before))
     ⊎ ((code ≡ room_code) × (length before < 480) × (after ≡ before)))
 
--- all cells of a window are told, or there is too little room; or there is no window
+-- all cells of a window are given, or there is too little room; or there is no window
 abbrev pub WindowGridAnswer : Option WindowState → ℕ → List WindowCell → List WindowCell → Type 0
 WindowGridAnswer (Some window) code before after =
     ((code ≡ 0) × HoldsWindow window before after)

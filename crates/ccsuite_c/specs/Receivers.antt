@@ -61,7 +61,7 @@ abbrev pub ReceivesAnswer : List ℕ → List ℕ → Receiving → ℕ → FedB
 ReceivesAnswer before bytes old code told (Some (held.Receiving new)) = ReceivesMore before bytes old new code told
 ReceivesAnswer before bytes old code told _ = ⊥
 
--- words end after these bytes: they are a words file, or it is told why they are none
+-- words end after these bytes: they are a words file, or the answer says why they are none
 abbrev pub EndAnswer : List ℕ → ℕ → FedBytes → Type 0
 EndAnswer bytes code told =
     ((code ≡ 0) × (told ≡ read_so 0 0) × ((frames : List Frame) × IsFileUnder caption_channel frames bytes))
@@ -72,7 +72,7 @@ EndAnswer bytes code told =
 abbrev pub frame_seen : ℕ → ℕ → ℕ → FrameSeen
 frame_seen number missing count = record { number = number; missing = missing; frames = count; reserved = replicate 3 0 }
 
--- the last of frames is told, or there is none, and nothing is told
+-- the last frame is given, or there is none, and nothing is given
 abbrev pub FrameAnswer : Reception → List Frame → ℕ → FrameSeen → FrameSeen → Type 0
 FrameAnswer reception frames code old new =
     ((code ≡ 0) × (new ≡ frame_seen (number_behind reception frames) (missing_behind reception frames) (frame_total reception)))
@@ -83,7 +83,7 @@ abbrev pub IsNoCell : Option Chan → ℕ → ℕ → Type 0
 IsNoCell None row column = Unit {0}
 IsNoCell (Some chan) row column = (row < 1) ⊎ ((15 < row) ⊎ (31 < column))
 
--- the displayed cell is told, or there is no such place
+-- the displayed cell is given, or there is no such place
 abbrev pub CellAnswer : Reception → List Frame → ℕ → ℕ → ℕ → ℕ → TextCell → TextCell → Type 0
 CellAnswer reception frames channel row column code old new =
     ((code ≡ 0) × ((chan : Chan) × (chan_of channel ≡ Some chan) × (new ≡ text_cell (grids_behind reception frames chan row column))))
@@ -100,7 +100,7 @@ pub record HasCellPlace (service id row column : ℕ) : Type 0 where
   pub in_rows : row < 16
   pub in_columns : column < 64
 
--- the window is told, or there is none
+-- the window is given, or there is none
 abbrev pub WindowAnswer : Option WindowState → ℕ → WindowSeen → WindowSeen → Type 0
 WindowAnswer (Some window) code old new = (code ≡ 0) × (new ≡ window_seen window)
 WindowAnswer None code old new = (code ≡ none_code) × (new ≡ old)
@@ -110,7 +110,7 @@ abbrev pub WindowCellAnswer : Option WindowState → ℕ → ℕ → ℕ → Win
 WindowCellAnswer (Some window) row column code old new = (code ≡ 0) × (new ≡ window_cell (window.cells row column))
 WindowCellAnswer None row column code old new = (code ≡ none_code) × (new ≡ old)
 
--- a text stands at the front of the output, whose other bytes are as they were, and its length is told
+-- a text stands at the front of the output, whose other bytes are as they were, and its length is given
 pub record TextStands (text before after : List ℕ) (count : ℕ) : Type 0 where
   pub fits : length text ≤ length before
   pub count_is : count ≡ length text

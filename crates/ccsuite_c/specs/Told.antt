@@ -29,7 +29,7 @@ read_so count ending = record { used = count; place = 0; ended = ending; why = 0
 abbrev pub refused_so : ℕ → ℕ → FedBytes
 refused_so byte reason = record { used = 0; place = byte; ended = 0; why = reason; reserved = replicate 2 0 }
 
--- the code that is answered, and what is told beside it
+-- the code that is answered, and what is given beside it
 abbrev pub TellsFed : Result Fed FeedFault → ℕ → FedBytes → Type 0
 TellsFed (Ok fed) code told = (code ≡ 0) × (told ≡ read_so fed.used (ended_number fed.ended))
 TellsFed (Err (fault.Refused refusal)) code told = (code ≡ refused_code) × (told ≡ refused_so refusal.place (reason_number refusal.why))

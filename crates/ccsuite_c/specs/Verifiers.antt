@@ -26,7 +26,7 @@ OpenedVerifier bytes (Some (held.Verifying verifying)) report = BeginsVerifying 
 OpenedVerifier bytes None report = (why : Status) × RefusesList bytes why × (report ≡ report_of why 0)
 OpenedVerifier bytes _ report = ⊥
 
--- what C learns of words that were fed: bytes that end a frame at which something is found are told so
+-- what C learns of words that were fed, and also whether they end a frame at which something is found
 abbrev pub TellsVerified : Result Fed FeedFault → Bool → ℕ → FedBytes → Type 0
 TellsVerified (Ok fed) true code told = (code ≡ found_code) × (told ≡ read_so fed.used (ended_number fed.ended))
 TellsVerified answer found code told = TellsFed answer code told
@@ -41,7 +41,7 @@ abbrev pub VerifiesAnswer : List ℕ → List ℕ → Verifying → ℕ → FedB
 VerifiesAnswer before words old code told (Some (held.Verifying new)) = VerifiesMore before words old new code told
 VerifiesAnswer before words old code told _ = ⊥
 
--- the report is that of the verdict
+-- the report is the verdict's
 pub record VerdictAnswer (bytes : List ℕ) (verifying : Verifying) (code : ℕ) (report : Report) : Type 0 where
   pub verdict : Status
   pub is : IsVerdictOn bytes (verifier_of verifying) verdict

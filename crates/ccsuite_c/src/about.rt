@@ -12,7 +12,7 @@ pub extern "C" fn ccsuite_version() -> u32
     65_536
 }
 
-/// Tells the reason of a number, 1 to 46: 0. 1 where there is none, and then nothing is told.
+/// Tells the reason of a number, 1 to 46: 0. 1 where there is none, and then nothing is written.
 #[unsafe(no_mangle)]
 pub extern "C" fn ccsuite_reason_of(number: u32, reason: &mut Reason) -> u32
     ensures { ReasonAnswer number result reason.old reason.new }

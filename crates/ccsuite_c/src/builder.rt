@@ -53,9 +53,9 @@ fn open(alloc: Global, list: &[u8]) -> Result<Box<State>, Status>
     }
 }
 
-/// Writes the ancillary packet of the next frame to the front of `out`, and the number of its bytes to `written`: 0. Where nothing is
-/// written: 32 where there is no open builder, 33 after the last frame; 3 where the packet has more bytes than `out`, and then `written` is
-/// how many, and the frame is still the next.
+/// Writes the ancillary packet of the next frame to the front of `out`, and the number of its bytes to `written`: 0. Else nothing is
+/// written: 32 where there is no open builder, 33 after the last frame. It answers 3 where the packet has more bytes than `out`, and then
+/// `written` is how many, and the frame is still the next.
 #[unsafe(no_mangle)]
 pub extern "C" fn ccsuite_builder_next(
     alloc: Global,

@@ -126,7 +126,7 @@ pub struct WindowSeen {
     pub reserved: [u8; 7],
 }
 
-/// What is told of a cell of a channel.
+/// What C sees of a cell of a channel.
 pub(crate) fn text_cell(cell: Option<Cell>) -> TextCell
     ensures { result ≡ text_cell cell }
 {
@@ -183,7 +183,7 @@ fn edge_of(colour: Rgb) -> Edge
     }
 }
 
-/// What is told of a cell of a window.
+/// What C sees of a cell of a window.
 pub(crate) fn window_cell(cell: Option<DCell>) -> WindowCell
     ensures { result ≡ window_cell cell }
 {
@@ -232,7 +232,7 @@ const NO_EDGE: Edge = Edge {
     blue: 0,
 };
 
-/// What is told of a window.
+/// What C sees of a window.
 pub(crate) fn window_seen(window: &Window) -> WindowSeen
     requires { IsTrue (is_live window.now) }
     ensures { IfSome (window_of window.now) (λ state. result ≡ window_seen state) }

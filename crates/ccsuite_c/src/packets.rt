@@ -23,9 +23,9 @@ pub struct PacketSeen {
     pub reserved: [u32; 5],
 }
 
-/// Writes the words that carry triplets of cc_data, three bytes each, and nothing else, with the code of a rate, 1 to 8, and a counter, to
-/// the front of `out`, and the number of their bytes: 0. 3 where they are more than `out` has, and then how many are wanted; 1 where there
-/// is no such rate, the counter is above 65,535, or the bytes aren't whole triplets, 31 at most.
+/// Writes the words that carry triplets of cc_data, three bytes each, and nothing else, to the front of `out`, and the number of their
+/// bytes: 0. They have the code of a rate, 1 to 8, and a counter. Answers 3 where they are more than `out` has, and then how many are
+/// wanted. Answers 1 where there is no such rate, the counter is above 65,535, or the bytes aren't whole triplets, 31 at most.
 #[unsafe(no_mangle)]
 pub extern "C" fn ccsuite_words_from_cc_data(
     cc_data: &[u8],
@@ -50,8 +50,8 @@ pub extern "C" fn ccsuite_words_from_cc_data(
 }
 
 /// Writes the triplets of cc_data that the words of one ancillary packet of captions carry to the front of `out`, three bytes each, as they
-/// stand, and the number of their bytes, and tells what else the packet says: 0. 3 where they are more than `out` has, and then how many
-/// are wanted; 6 where the words aren't just one such packet, whole and right.
+/// stand, and the number of their bytes. It also tells what else the packet says: 0. 3 where they are more than `out` has, and then how
+/// many are wanted; 6 where the words aren't just one such packet, whole and right.
 #[unsafe(no_mangle)]
 pub extern "C" fn ccsuite_cc_data_from_words(
     words: &[u8],

@@ -52,7 +52,7 @@ pub struct ChangedSeen {
     pub reserved: [u32; 3],
 }
 
-/// Opens a receiver that was fed nothing, of words of which frames may be missing where `conceals` says so; what the handle held before is
+/// Opens a receiver that was fed nothing, of words of which frames may be missing where `conceals` says so. What the handle held before is
 /// freed: 0. 4 where memory isn't found, and then the handle is closed.
 #[unsafe(no_mangle)]
 pub extern "C" fn ccsuite_receiver_open(alloc: Global, receiver: &mut Handle, conceals: bool) -> u32

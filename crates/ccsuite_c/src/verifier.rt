@@ -119,8 +119,8 @@ fn feed_on(verifying: &mut Verifying, words: &[u8], fed: &mut FedBytes) -> u32
 }
 
 /// Reports on the words that were fed, if they end here: Differs with the first finding, where there is one; else Malformed with the first
-/// offending word, or where they may not end; else Short, where there are fewer frames than the list has; else Ok. 32 where there is no
-/// open verifier, and then nothing is reported.
+/// offending word, or where they may not end. Else it reports Short, where there are fewer frames than the list has, or Ok. 32 where there
+/// is no open verifier, and then nothing is reported.
 #[unsafe(no_mangle)]
 pub extern "C" fn ccsuite_verifier_verdict(
     alloc: Global,

@@ -55,11 +55,11 @@ verdict_of (Fit late) aside = FitVerdict late
 verdict_of (Help page) aside = TextVerdict (page_text page)
 verdict_of Version aside = TextVerdict VERSION_LINE.now
 
--- a command that names a side file reads it; a run of another is that of an empty one
+-- a command that names a side file reads it; another command runs as with an empty one
 abbrev pub side_for : Command → SideEnds → SideEnds
 side_for command side = if has_side_file (Some command) then side else no_side
 
--- `load`, `help` and `version` read no input: their run is that of an empty one
+-- `load`, `help` and `version` read no input: they run as on an empty one
 abbrev pub input_for : Command → Ends → Ends
 input_for (Load count) e = ends (Some []) e.read_faults e.written e.write_faults
 input_for (Help page) e = ends (Some []) e.read_faults e.written e.write_faults

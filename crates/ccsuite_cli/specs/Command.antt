@@ -49,7 +49,7 @@ start_in count text = option_and_then (λ t. if is_time_code_in count t && is_ma
 abbrev pub mcc_of : List ℕ → List ℕ → Option Command
 mcc_of rate time = option_and_then (λ count. option_map (λ start. ExportMcc count start) (start_in count time)) (named countings rate)
 
--- a command whose time code, if it has one, is of the day, and whose number, if it has one, is that of a load or of a fit
+-- a command whose time code, if it has one, is of the day, and whose number, if it has one, is a load's or a fit's
 abbrev pub IsRunnable : Option Command → Type 0
 IsRunnable (Some (Import time)) = IfSome time (λ start. is_time_code start ≡ true)
 IsRunnable (Some (Export time)) = is_time_code time ≡ true

@@ -1,12 +1,12 @@
 //! Laws of what a run answers and puts: functions that do nothing, with the laws as their contracts.
 ghost use Rattle.ccsuite_cli.specs.Verdict.{EveryInputHasVerdict, FaultsAreTold, VerdictIsAnswered, VerdictIsOne};
 
-/// The law that of bytes each command makes one status, but for ReadFault and WriteFault.
+/// The law that each command makes one status of any bytes, but for ReadFault and WriteFault.
 pub fn verdict_is_one()
     ensures { VerdictIsOne }
 {}
 
-/// The law that of all bytes it makes one.
+/// The law that it makes one of all bytes.
 pub fn every_input_has_verdict()
     ensures { EveryInputHasVerdict }
 {}

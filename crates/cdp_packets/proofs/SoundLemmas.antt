@@ -147,7 +147,7 @@ is_packet size mark second long rate flags high low cut last head are whole zero
       total = zero;
     }
 
--- a packet, where the footer's bytes are told
+-- a packet, where the footer's bytes are known
 packet_by_foot : (size : ℕ) (mark second long rate flags high low : ℕ) (cut : List (List ℕ)) (foot body : List ℕ) → IsHead size mark second long rate → AreSections cut
     → body ≡ concat cut ++ foot → IsFoot high low foot → length foot ≡ 4 → length (concat cut) + 11 ≡ size
     → sum (mark ∷ second ∷ long ∷ rate ∷ flags ∷ high ∷ low ∷ body) % 256 ≡ 0

@@ -16,6 +16,6 @@ abbrev pub section_triplet_bytes : List ℕ → List ℕ
 section_triplet_bytes (id ∷ second ∷ rest) = if id == 0x72 then rest else []
 section_triplet_bytes _ = []
 
--- the triplets of a packet are those of its cc_data sections, in order
+-- the triplets of a packet are its cc_data sections' triplets, in order
 abbrev pub packet_triplets : Frame → List Triplet
 packet_triplets packet = flat_map section_triplets packet.sections

@@ -46,8 +46,8 @@ pub fn written_is_read_back()
         → p ≡ record { rate = rate; flags = flags; counter = counter; sections = cut } }
 {}
 
-/// What is written for at most 31 triplets is one section, and its triplets are these. So are those of
-/// a packet with this section alone.
+/// What is written for at most 31 triplets is one section, and its triplets are these. A packet with this section
+/// alone has these triplets too.
 pub fn written_triplets_are_read_back()
     ensures section { (triplets : List Triplet) → length triplets ≤ 31
         → IsSection (cc_data_section triplets) }

@@ -11,11 +11,10 @@ use cc_base::Rate;
 /// The flags of a packet with a section of cc_data alone, of an active caption service (SMPTE ST 334-2).
 pub const CAPTION_FLAGS: u8 = 0x43;
 
-/// Writes a caption distribution packet of this rate, flags, counter and list of sections, of which there
-/// are at most 244 bytes, into an empty `out`. The flags stand as given: from the top they say that there are a
-/// time code, cc_data, service information, that this begins, is a change of, and is the whole of it, and
-/// that captions are active; the lowest is one. The four bits beside the rate are written as ones
-/// (SMPTE ST 334-2).
+/// Writes a caption distribution packet of this rate, flags, counter and list of sections, of which there are
+/// at most 244 bytes, into an empty `out`. The flags stand as given. From the top they say that there are a
+/// time code, cc_data, service information, that this begins, is a change of, and is the whole of it, and that
+/// captions are active. The lowest is one. The four bits beside the rate are written as ones (SMPTE ST 334-2).
 #[inline(always)]
 pub fn write_cdp(rate: Rate, flags: u8, counter: u16, sections: &[u8], out: &mut ArrayVec<u8, 255>)
     requires short { length sections.now ≤ 244 }

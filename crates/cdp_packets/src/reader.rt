@@ -12,14 +12,14 @@ use crate::open_packet::OpenPacket;
 use crate::parts::CdpPart;
 use cc_base::{Fed, Refusal, Resume, Step, Upward, Why};
 
-/// Reads the bytes of a caption distribution packet, in any pieces (SMPTE ST 334-2), and hands its parts upward: the rate, the
-/// flags, the counter, each byte of the sections with the triplets of cc_data after their bytes, and its end.
+/// Reads the bytes of a caption distribution packet, in any pieces (SMPTE ST 334-2), and hands its parts upward. These are the
+/// rate, the flags, the counter, each byte of the sections with the triplets of cc_data after their bytes, and its end.
 ///
 /// The length of the packet is known before. A byte is refused where no packet of this length can continue with it:
-/// `Identifier`, `Length` where the packet gives another one, `Rate` for code 0 and above 8, `Section` at an id, `Count` at a
-/// section's second byte, `Section` again where the footer's id is another one, `Counter` where the footer's isn't that of
-/// the head, and `Sum`; or for the reason of the layer above. The place is the number of the byte. Bytes after the packet's
-/// end change nothing. The reader keeps counts and a sum, and no list of bytes.
+/// `Identifier`, `Length` where the packet gives another one, `Rate` for code 0 and above 8, `Section` at an id, and `Count`
+/// at a section's second byte. In the footer these are `Section` again where its id is another one, `Counter` where its
+/// counter isn't the head's, and `Sum`. Or the layer above refuses it for its own reason. The place is the number of the
+/// byte. Bytes after the packet's end change nothing. The reader keeps counts and a sum, and no list of bytes.
 #[derive(Clone, Copy)]
 pub struct CdpReader {
     fed: Fed<OpenPacket>,

@@ -21,7 +21,7 @@ pub(crate) enum Within {
     Count { id: u8 },
     /// One of this many bytes that are left of the section, which carries no triplets.
     Body { left: usize },
-    /// One of this many bytes that are left of a section of cc_data, after those of the open triplet.
+    /// One of this many bytes that are left of a section of cc_data, after the open triplet's.
     Triplet { left: usize, triplet: OpenTriplet },
 }
 

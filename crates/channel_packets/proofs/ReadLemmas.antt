@@ -1,4 +1,4 @@
--- The parts that triplets make are those of their packets, and none is refused.
+-- The parts that triplets make are their packets' parts, and none is refused.
 use Rattle.std.proofs.Common.{◌≡◌, ℕ, zero, suc, ◌-◌, ◌*◌, ◌%◌, ◌<◌, ◌≤◌, ◌==◌, ◌||◌, if◌then◌else◌, Bool, true, false, List, [], ◌∷◌, ◌++◌, length, map, take, Option, Some, None, refl, ap, sym, subst, ◌∙◌, arith}
 use Rattle.std.proofs.lemmas.Bool.Decides.{nat_tests}
 use Rattle.std.proofs.lemmas.List.{length-take}
@@ -192,7 +192,7 @@ strays_pass (stray ∷ strays) all =
     let (one, others) = true_and (continues_packet stray) (list_all continues_packet strays) all in
     ap (λ f. front_from open_after f strays) (after-continuing nothing_open stray one) ∙ strays_pass strays others
 
--- the parts of a file's triplets are those of its packets
+-- the parts of a file's triplets are its packets' parts
 pub parts_of-packets : (packets : List ChannelPacket) (triplets : List Triplet) → AreChannelPackets packets triplets
     → parts_of packet_syntax triplets ≡ packet_parts None packets
 parts_of-packets packets triplets are =

@@ -1,6 +1,6 @@
 -- Believed in part: the program's answer stands on some of these definitions.
 -- Caption channel packets (CTA-708-E, section 5): of the triplets of cc_data in a whole file, in order, those that count and
--- are of kind 3 or 2. One of kind 3 starts a packet, and those of kind 2 after it continue with it. The first byte of a packet
+-- are of kind 3 or 2. One of kind 3 starts a packet, and the ones of kind 2 after it continue with it. The first byte of a packet
 -- is its header; the header says how many of the bytes after it are the packet's.
 use Rattle.std.specs.Prelude.{◌≡◌, ℕ, ◌+◌, ◌-◌, ◌*◌, ◌/◌, ◌%◌, ◌==◌, ◌&&◌, ◌||◌, not, if◌then◌else◌, Bool, true, false, List, [], ◌∷◌, ◌++◌, filter, map, take, Option, Some, None}
 use Rattle.std.specs.List.{flat_map, list_all}
@@ -14,7 +14,7 @@ starts triplet = triplet.valid && (triplet.kind == 3)
 abbrev pub continues_packet : Triplet → Bool
 continues_packet triplet = triplet.valid && (triplet.kind == 2)
 
--- the triplets of channel packets: those of line 21 and those that don't count are left out
+-- the triplets of channel packets: those for line 21 and those that don't count are left out
 abbrev pub channel_triplets : List Triplet → List Triplet
 channel_triplets triplets = filter (λ triplet. starts triplet || continues_packet triplet) triplets
 

@@ -33,7 +33,7 @@ pub fn packets_have_their_sizes()
         → All (λ packet. length packet.bytes ≤ size_of packet.header) packets }
 {}
 
-/// Triplets after others have their packets after those of the others, where none of them continues a packet before one
+/// Triplets after others have their packets after the others' packets, where none of them continues a packet before one
 /// starts a packet.
 pub fn packets_are_joined()
     ensures { (packets others : List ChannelPacket) (triplets more : List Triplet)

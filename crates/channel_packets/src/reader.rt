@@ -14,8 +14,8 @@ use cc_data::Triplet;
 /// Reads the triplets of cc_data of a file, in any pieces, and hands the parts of its caption channel packets upward
 /// (CTA-708-E, section 5).
 ///
-/// A triplet of kind 3 starts a packet and ends the one before, whole or not; those of kind 2 carry its further bytes, and
-/// belong to no packet where none is open. Triplets that don't count, and those of line 21, are passed over. The reader
+/// A triplet of kind 3 starts a packet and ends the one before, whole or not; triplets of kind 2 carry its further bytes, and
+/// belong to no packet where none is open. Triplets that don't count, and line 21's, are passed over. The reader
 /// refuses nothing: a refusal is one of the layer above, and its place is the number of the triplet. It keeps the last
 /// packet's number and how many of its bytes are left, and none of the bytes.
 #[derive(Clone, Copy)]

@@ -1,4 +1,4 @@
--- Where no count of faults rose, a run answers what its command makes of the bytes, or Memory; and a count that rose is told.
+-- Where no count of faults rose, a run answers what its command makes of the bytes, or Memory; and it answers for a count that rose.
 use Rattle.std.proofs.Common.{◌≡◌, ◌⊎◌, inl, inr, refl, subst, ℕ, List, [], IfSome, Option, Some}
 use Rattle.std.specs.Io.KnownBytes.{Keeps}
 use Rattle.command_base.proofs.CountLemmas.{read_told, same_told, steady_told, write_told, side_kept}

@@ -1,4 +1,4 @@
--- How a run realises a verdict: what is told of bytes, and what is taken of them.
+-- How a run realises a verdict: what holds of bytes, and what is taken of them.
 use Rattle.std.proofs.Common.{◌≡◌, ◌++◌, ap, inl, refl, subst, sym, ℕ, List, [], Option, Some, None}
 use Rattle.std.specs.Prelude.{IfSome}
 use Rattle.std.specs.Io.KnownBytes.{Appends, Consumes, Keeps}
@@ -38,7 +38,7 @@ nothing_put old new kept = Appends-kept old old new [] (Appends-nil old) kept
 pub kept_same : (old new : Ends) → new ≡ old → Keeps old.written new.written
 kept_same old new same = subst (λ (e : Ends). Keeps old.written e.written) (sym same) (Keeps-refl old.written)
 
--- so one does of the side file, and both are told
+-- so one does of the side file, and both are known
 pub aside_told : (P : List ℕ → Type 0) (Q : List ℕ → List ℕ → Type 0) (side left : Option (List ℕ)) → ((aside input : List ℕ) → left ≡ Some input → P aside → Q aside input)
     → IfSome side P → IfSome side (λ aside. IfSome left (λ input. Q aside input))
 aside_told P Q None left each fact = tt

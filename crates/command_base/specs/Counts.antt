@@ -27,6 +27,6 @@ pub record IsSideOf (text : List ℕ) (side later : SideEnds) : Type 0 where
 abbrev pub TellsSideFaults : SideEnds → SideEnds → Status → Type 0
 TellsSideFaults side later answer = side.faults < later.faults → answer ≡ status.ReadFault
 
--- and so where that of the input or of the output is
+-- and so where the input's or the output's count rose
 abbrev pub TellsAllFaults : SideEnds → SideEnds → Ends → Ends → Status → Type 0
 TellsAllFaults side later old new answer = TellsSideFaults side later answer × TellsFaults old new answer

@@ -3,7 +3,7 @@
 use Rattle.std.specs.Prelude.{◌≡◌, ℕ, List, Option}
 use Rattle.std.specs.Io.KnownBytes.{Keeps}
 
--- the bytes that the input has left and those that the output has written, where they are told, and the counts of their faults
+-- the bytes that the input has left and the ones that the output has written, where they are known, and the counts of their faults
 pub record Ends : Type 0 where
   pub left : Option (List ℕ)
   pub read_faults : ℕ

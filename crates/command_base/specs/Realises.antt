@@ -15,7 +15,7 @@ use Rattle.command_base.specs.declared.status.Status.TheVariants as status
 abbrev pub Verdict : Type 1
 Verdict = List ℕ → List ℕ → Status → List ℕ → Type 0
 
--- this holds of the bytes of the side file and of the input, where both are told
+-- this holds of the bytes of the side file and of the input, where both are known
 abbrev pub OfBytes : SideEnds → Ends → (List ℕ → List ℕ → Type 0) → Type 0
 OfBytes side old Holds = IfSome side.left (λ aside. IfSome old.left (λ input. Holds aside input))
 
@@ -57,7 +57,7 @@ Realises Says side later old new status.Memory =
 Realises Says side later old new answer =
     IsFaultless side later old new × OfBytes side old (λ aside input. PutsSaid Says aside input old new answer)
 
--- an empty side file that is left: a run of a command without one is that of it
+-- an empty side file that is left: a command without a side file runs as with this one
 abbrev pub no_side : SideEnds
 no_side = side_ends (Some []) 0
 

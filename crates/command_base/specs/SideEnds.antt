@@ -2,7 +2,7 @@
 -- What clauses see of a side file at a moment.
 use Rattle.std.specs.Prelude.{ℕ, List, Option}
 
--- the bytes that it has left, where they are told, and the count of its faults
+-- the bytes that it has left, where they are known, and the count of its faults
 pub record SideEnds : Type 0 where
   pub left : Option (List ℕ)
   pub faults : ℕ

@@ -5,7 +5,7 @@ use Rattle.cc_base.specs.Adapters.{reader_faults, reader_of}
 use Rattle.command_base.specs.declared.side_file.SideFile.{SideFile}
 use Rattle.command_base.specs.declared.side_file.SideFile.TheVariants.{Empty, Missing, Opened}
 
--- what an opened file tells; nothing is told of a missing one
+-- the bytes that an opened file has left, where they are known; a missing file's aren't
 abbrev pub left_in : {R : Type 0} → (R → Option (List ℕ)) → SideFile R → Option (List ℕ)
 left_in remaining (Opened source) = remaining (reader_of source)
 left_in remaining (Missing faults) = None

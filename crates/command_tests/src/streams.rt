@@ -16,7 +16,7 @@ const LIST: &[u8] = b"ccsuite,1,29.97,30\npop,CC1,0,7,20\nrun,15,0,white,HI\n";
 /// The same list with another text.
 const OTHER: &[u8] = b"ccsuite,1,29.97,30\npop,CC1,0,7,20\nrun,15,0,white,HO\n";
 
-/// What is told of the screens after frame 7.
+/// The screens after frame 7, as text.
 const SHOWN: &[u8] = b"frame 7\nCC1 1\n15 0 white HI\n";
 
 /// The same again.

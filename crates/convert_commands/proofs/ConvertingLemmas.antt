@@ -150,7 +150,7 @@ some_counted before bytes old new fed feeds caption =
     subst (Counts (frame_count (input_of old)) (frame_count (input_of new))) caption feeds.counts in
     omega arith
 
--- its words are gathered after those of the frames before it
+-- its words are gathered after the earlier frames' words
 words_gathered : (start now then : Option (List ℕ)) (held after words text : List ℕ) (frames : List Frame) (last : Frame) (r : Put)
     → IsGathered start now held text → text ≡ conversion_bytes frames → words ≡ halves_words (length frames) last → Gathers now then held after r words
     → GathersText start then after (conversion_bytes (frames ++ last ∷ [])) r

@@ -13,7 +13,7 @@ abbrev pub ConvertHalts : Status → List ℕ → List ℕ → Type 0
 ConvertHalts (status.Misfit found) bytes text = FramesHalt conversion_bytes AreFit (λ earlier last. IsMisfitAt earlier last found) bytes text
 ConvertHalts _ bytes text = ⊥
 
--- `convert`: the words that the frames become, of which none has a misfit; a file ends well with those of all its frames
+-- `convert`: the words that the frames become, of which none has a misfit; a file ends well with the words of all its frames
 abbrev pub ConvertVerdict : List ℕ → Status → List ℕ → Type 0
 ConvertVerdict =
     WordsVerdict (EndsWell (λ frames text. AreFit frames × (text ≡ conversion_bytes frames))) (FramesSay conversion_bytes AreFit) ConvertHalts

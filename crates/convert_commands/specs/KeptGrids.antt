@@ -1,5 +1,5 @@
 -- Between crates: the program's answer stands on none of these definitions.
--- What is put of a whole file is a words file that shows the same.
+-- The words that `convert` puts of a whole file are a words file that shows the same.
 use Rattle.std.specs.Prelude.{◌<◌, ℕ, List, length}
 use Rattle.cdp_packets.specs.Packets.{Frame}
 use Rattle.rate_convert.specs.Conversion.{conversion, conversion_bytes}

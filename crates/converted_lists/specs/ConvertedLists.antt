@@ -1,6 +1,6 @@
 -- Between crates: the program's answer stands on none of these definitions.
--- Which cue lists have words that are converted from 29.97 to 59.94 without a misfit: those of which each delay lasts just twice as many
--- frames at twice the rate (CTA-708-E, Delay).
+-- Which cue lists have words that are converted from 29.97 to 59.94 without a misfit: the lists whose delays each last just twice
+-- as many frames at twice the rate (CTA-708-E, Delay).
 use Rattle.std.specs.Prelude.{◌≡◌, ◌≤◌, All}
 use Rattle.cc_base.specs.declared.rate.Rate.TheVariants.{F2997}
 use Rattle.cue_lists.specs.Listing.{IsFormed, Listing}

@@ -1,4 +1,4 @@
--- With fewer cues there are no more events: what is free beside the events of cues is free beside those of the first of them.
+-- With fewer cues there are no more events: what is free beside cues' events is free beside the events of the first of them.
 use Rattle.std.proofs.Common.{◌≡◌, ◌∙◌, ◌≢◌, ℕ, ◌+◌, ◌≤◌, ◌==◌, ◌&&◌, ◌||◌, Bool, true, false, List, [], ◌∷◌, ◌++◌, length, refl, sym, ap, subst, arith}
 use Rattle.std.specs.Prelude.{Option, Some, None, if◌then◌else◌, option_map}
 use Rattle.std.specs.List.{flat_map, list_any}
@@ -42,7 +42,7 @@ module _ (in_field : FieldNumber) (n : ℕ) where
       let shown = free_parts (show_events in_field next) (hide_events in_field next.hide more) n parts.0 in
       replaced next hide (is_pop next.kind) (next.show == hide) (eqb-true next.show hide) free shown.0
 
-  -- what is free beside the events of cues is free beside those of the first of them
+  -- what is free beside cues' events is free beside the events of the first of them
   pub front_free : (cues more : List Cue) → IsFree (cue_events in_field (cues ++ more)) n → IsFree (cue_events in_field cues) n
   front_free [] more free = tt
   front_free (cue ∷ later) more free =

@@ -59,7 +59,7 @@ placed_weaker one other weaker before (u ∷ us) [] p = p
 placed_weaker one other weaker before (u ∷ us) (f ∷ fs) p =
     (weaker before u f p.0, placed_weaker one other weaker (before ++ (u, f) ∷ []) us fs p.1)
 
--- the units of cues, and those of the cues after them
+-- the units of cues, and of the cues after them
 field_chunks-append : (channel : Chan) (number : ℕ) (cues more : List Cue)
     → (next : ℕ) × (channel_chunks_from channel number (cues ++ more) ≡ channel_chunks_from channel number cues ++ channel_chunks_from channel next more)
 field_chunks-append channel number [] more = (number, refl)

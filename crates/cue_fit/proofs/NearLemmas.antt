@@ -1,4 +1,4 @@
--- Whether a cue of a channel may be shown after others is told by the former cue of its channel alone.
+-- Whether a cue of a channel may be shown after others depends on the former cue of its channel alone.
 use Rattle.std.proofs.Common.{◌≡◌, ◌∙◌, ℕ, suc, inl, inr, Bool, true, false, cond, List, [], ◌∷◌, ◌++◌, refl, sym, ap, subst}
 use Rattle.std.specs.Prelude.{Option, None}
 use Rattle.std.specs.List.{AllByRecursion}
@@ -47,7 +47,7 @@ pub record AreGood (rate : Rate) (frames : ℕ) (channel : Chan) (cues : List Cu
   pub on_slots : AllByRecursion (IsOnSlots (cadence_of rate channel)) cues
   pub room : HaveRoom (field_of_channel channel) (cues_in_slots (cadence_of rate channel) cues)
 
--- and those of a service
+-- and the cues of a service
 pub record IsServed (list : Listing) (service : ℕ) : Type 0 where
   pub ruled : AreInService list service (cues_of_service service list.cues)
   pub frames : List ℕ

@@ -31,7 +31,7 @@ empty_plan list = record {
     placement (Channel channel) = earliest_none _
     placement (Service service) = earliest_none _
 
--- and so has each list of cues that are fitted after those of such a one
+-- and so has each list of cues that are fitted after the cues of such a one
 pub fitted_plan : (late : ℕ) (list : Listing) (earlier cues fitted : List Cue) → HasPlan (list_of list earlier) → AreFitted late list earlier cues fitted
     → HasPlan (list_of list fitted)
 fitted_plan late list earlier [] fitted plan are = subst (λ (e : List Cue). HasPlan (list_of list e)) (sym are) plan

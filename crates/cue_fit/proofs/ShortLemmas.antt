@@ -220,7 +220,7 @@ near_less cue earlier nears same =
     let d : length (reverse nears) ≡ length (near cue (reverse earlier)) = ap length same in
     omega (arith, a, b, c, d)
 
--- what is told after those is told after all
+-- a plan's answer after the near cues is its answer after all
 pub tells_all : (list : Listing) (earlier nears : List Cue) (cue : Cue) (frame : ℕ) (answer : Result Bool PlanFault) → ComesNext list earlier cue → frame < 2 ^ 32
     → reverse nears ≡ near cue (reverse earlier) → TellsPlan (list_of list (with_shown frame cue (reverse nears))) answer
     → TellsPlan (list_of list (with_shown frame cue (reverse earlier))) answer

@@ -1,4 +1,4 @@
--- The cues of one channel, in slots: whether the last one has room is told by it and the one before it.
+-- The cues of one channel, in slots: whether the last one has room depends on it and the one before it alone.
 use Rattle.std.proofs.Common.{◌≡◌, ◌∙◌, ◌≢◌, ℕ, suc, ◌+◌, ◌*◌, ◌<◌, ◌≤◌, ◌==◌, ◌&&◌, Bool, true, false, List, [], ◌∷◌, ◌++◌, refl, sym, ap, subst, append_assoc, arith}
 use Rattle.std.specs.Prelude.{Option, Some, None, IfSome, if◌then◌else◌, map}
 use Rattle.std.specs.List.{AllByRecursion, flat_map, zip}
@@ -291,7 +291,7 @@ module _ (in_field : FieldNumber) where
       at (Some h) low apart cleared free =
           hidden_over (is_pop next.kind) h next.show next.load stands.slot low apart cleared stands.from stands.to (next.show == h) refl free
 
-  -- so are those of all cues before one, when this is shown
+  -- so are the events of all cues before one, when this is shown
   pub front_over : (slots : ℕ) (cues : List Cue) (next : Cue) → AreInSlots slots (cues ++ next ∷ []) → (events : List Event)
       → ((n : ℕ) → IsFree events n → IsFree (cue_events in_field (cues ++ next ∷ [])) n) → AllByRecursion (Stands events) (cues ++ next ∷ [])
       → AreOver next.show (front_events cues next)

@@ -18,7 +18,7 @@ use std::alloc::Global;
 /// The most frames that a cue may be shown late.
 pub const MOST_LATE: u32 = 1_000;
 
-/// Fits a list that keeps the rules: each cue in turn is shown in the first frame, from its SHOW on, in which the list of the cues so
+/// Fits a list that keeps the rules. Each cue in turn is shown in the first frame, from its SHOW on, in which the list of the cues so
 /// far keeps the rules and has a placement. NoRoom names the first cue for which none of this many frames after its SHOW, 0 to 1,000,
 /// is such a one.
 ///
@@ -102,7 +102,7 @@ fn first_show(
 }
 
 /// Whether a cue may be shown in a frame after those so far, whose list has a plan: the list of all of them keeps the rules and has a
-/// placement. On a channel that is told by the former cue alone.
+/// placement. On a channel the former cue alone decides it.
 fn may_show(
     alloc: Global,
     list: &CueList,

@@ -45,7 +45,7 @@ fn move_former(cues: &mut Vec<Cue>, cue: &Cue, show: u32) -> u32
     load
 }
 
-/// The list of the cues so far with a cue after them, shown in this frame. The header and the shares are those of `list`.
+/// The list of the cues so far with a cue after them, shown in this frame. The header and the shares are `list`'s.
 pub fn list_with_shown(
     alloc: Global,
     list: &CueList,

@@ -92,7 +92,7 @@ coded_tests k line21 (ch ∷ chs) each =
     let rest = coded_tests k line21 chs (All-tail (λ ch. IsSome (spelling_of ch)) ch chs each) in
     rw (first, rest) refl
 
--- and so do those of a window
+-- and so do a window's
 window_test : (window : WinCue) (ch : ℕ) → IsSome (dtv_spelling_of ch) → is_coded (kind.Win window) ch ≡ true
 unfolding is_coded
 window_test window ch e = e

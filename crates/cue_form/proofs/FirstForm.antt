@@ -1,4 +1,4 @@
--- The first judgement that isn't good is that of the first field that hasn't its form.
+-- The first judgement that isn't good is the judgement of the first field that hasn't its form.
 use Rattle.std.proofs.Common.{◌≡◌, ℕ, ◌+◌, ◌<◌, Bool, true, false, if◌then◌else◌, List, [], ◌∷◌, ◌++◌, drop, length, Some, None, refl, sym, ap, subst, ◌∙◌, inl, inr, ◌⊎◌, add-one, arith}
 use Rattle.std.specs.List.{AllByRecursion, zip}
 use Rattle.cc_base.specs.declared.why.Why.{Why}

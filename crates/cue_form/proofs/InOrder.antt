@@ -158,7 +158,7 @@ in_six service from upto =
     differs : (a b : ℕ) → (a == b) ≡ false → a ≢ b
     differs a b other same = let q = eq-eqb a b same in cc
 
--- the share of a service, from those of some services
+-- the share of a service, from the shares of some services
 share_among : (l : Listing) (service : ℕ) (services : List ℕ)
     → option_map (λ (share : Share). share.bytes) (find (λ (share : Share). share.service == service) (flat_map (share_list l) services))
     ≡ (if list_any (λ k. k == service) services then share_of l service else None)

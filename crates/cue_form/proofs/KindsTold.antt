@@ -1,4 +1,4 @@
--- The judgements of a record, by its kind: after its number of fields, those of its fields in their order.
+-- The judgements of a record, by its kind: after its number of fields, its fields in their order.
 use Rattle.std.proofs.Common.{◌≡◌, ℕ, ◌+◌, ◌-◌, ◌<◌, ◌≤◌, ◌^◌, ◌==◌, nat_le, min, not, Bool, true, List, [], ◌∷◌, length, is_some, Option, Some, None, refl, sym, subst, arith, inl, inr, ◌⊎◌, lt-ltb, leb-true, le-leb}
 use Rattle.std.specs.List.{list_any}
 use Rattle.std.specs.Prelude.{Decides, IsSome, MatchOption}

@@ -1,4 +1,4 @@
--- What is due for the records of a list: no limit but those of frames and cues, and never out of memory.
+-- What is due for the records of a list: no limit but the ones on frames and cues, and never out of memory.
 use Rattle.std.proofs.Common.{◌≡◌, ℕ, ◌+◌, ◌&&◌, Bool, true, false, List, [], ◌∷◌, Option, Some, None, Result, Ok, Err, refl, subst}
 use Rattle.std.specs.Prelude.{⊤}
 use Rattle.std.specs.declared.alloc.AllocError.{AllocError}

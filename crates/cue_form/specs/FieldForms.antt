@@ -111,7 +111,7 @@ room_at (Some head) = share_room head.rate
 abbrev pub frame_form : FieldForm
 frame_form = NumberField 0 4294967295
 
--- ROW of a run: in line 21 from 1 to 15, in a roll-up cue that of its first run, with room for its rows, and in a window from 0
+-- ROW of a run: in line 21 from 1 to 15, in a roll-up cue its first run's, with room for its rows, and in a window from 0
 abbrev pub row_form : Kind → List Run → FieldForm
 row_form (kind.Pop channel) runs = NumberField 1 15
 row_form (kind.Paint channel) runs = NumberField 1 15

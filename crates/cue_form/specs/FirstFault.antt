@@ -12,7 +12,7 @@ use Rattle.cue_form.specs.declared.fault.CueFault.{CueFault}
 use Rattle.cue_form.specs.declared.fault.CueFault.TheVariants as malformed
 use Rattle.cue_form.specs.declared.offence.Offence.{Offence}
 
--- the records before one are those of a begun list, and it offends
+-- the records before one are a begun list's, and it offends
 pub record OffendsIn (records : List Record) (fault : CueFault) : Type 0 where
   pub begun : Begun
   pub offender : Record
@@ -23,7 +23,7 @@ pub record OffendsIn (records : List Record) (fault : CueFault) : Type 0 where
   pub offends : RecordOffends begun offender offence
   pub place : fault ≡ in_record (length (begun_records begun) + 1) offence
 
--- all records are those of a begun list, which can't end there: it has no head, or a cue without a run
+-- all records are a begun list's, which can't end there: it has no head, or a cue without a run
 pub record RecordsEndEarly (records : List Record) (fault : CueFault) : Type 0 where
   pub begun : Begun
   pub are : records ≡ begun_records begun

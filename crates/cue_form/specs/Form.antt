@@ -58,7 +58,7 @@ is_bare_window (kind.Paint channel) = false
 is_bare_window (kind.Roll channel rows) = false
 is_bare_window (kind.Win window) = is_none window.attr
 
--- the last record was that of a window
+-- the last record was a window's
 abbrev pub awaits_attributes : Option Cue → Bool
 awaits_attributes None = false
 awaits_attributes (Some cue) = no_runs cue.runs && is_bare_window cue.kind
@@ -76,7 +76,7 @@ last_is_plain [] = false
 last_is_plain (run ∷ []) = is_none run.colors
 last_is_plain (run ∷ (next ∷ runs)) = last_is_plain (next ∷ runs)
 
--- the last record was that of a run in a window
+-- the last record was a run's, in a window
 abbrev pub awaits_colours : Option Cue → Bool
 awaits_colours None = false
 awaits_colours (Some cue) = is_window cue.kind && last_is_plain cue.runs

@@ -29,7 +29,7 @@ pub record StandsAs (b : Begun) (r : Record) (kind : RecordKind) : Type 0 where
   pub word : field r 0 ≡ kind_word kind
   pub may : MayStand b kind
 
--- so it does, and if it is that of a cue, it isn't one too many
+-- so it does, and if it begins a cue, it isn't one too many
 pub record IsWelcome (b : Begun) (r : Record) (kind : RecordKind) : Type 0 where
   pub stands : StandsAs b r kind
   pub few : OpensCue kind → length (cues_of b) < most_cues

@@ -37,7 +37,7 @@ pub record IsBetweenRecords {W : Type 0} (writer : Writer W) : Type 0 where
   pub fields : fields_written writer ≡ 0
   pub begun : has_written writer ≡ false
 
--- the bytes that a writer was given, where `items` are those of the writer underneath
+-- the bytes that a writer was given, where `items` are the bytes of the writer underneath
 abbrev pub bytes_given : {W : Type 0} → (W → List ℕ) → Writer W → List ℕ
 bytes_given items writer = items (writer_under writer) ++ writer_pending writer
 

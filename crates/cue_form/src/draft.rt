@@ -155,7 +155,7 @@ impl Draft {
         )
     }
 
-    /// Whether the last record was that of a window, whose attributes may follow.
+    /// Whether the last record was a window's, whose attributes may follow.
     fn awaits_attributes(&self) -> bool
         ensures { result ≡ awaits_attributes self.now.last }
     {
@@ -165,7 +165,7 @@ impl Draft {
         }
     }
 
-    /// Whether the last record was that of a run in a window, whose colours may follow.
+    /// Whether the last record was a run's in a window, whose colours may follow.
     fn awaits_colours(&self) -> bool
         ensures { result ≡ awaits_colours self.now.last }
     {

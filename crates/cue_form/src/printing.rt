@@ -14,9 +14,10 @@ use cue_types::{Cue, CueList, Head, Kind, Run, Share, Version};
 use dtvcc_codes::WinAttr;
 use std::alloc::{AllocError, Global};
 
-/// Writes a cue list as CSV (RFC 4180): a record a line, each with a line feed after it, a field in quotes where it has a
-/// comma, a quote or the end of a line. The first record says version 2, the shares stand in ascending order of their
-/// services, a window's own attributes directly after its record, and a run's own colours directly after its.
+/// Writes a cue list as CSV (RFC 4180): a record a line, each with a line feed after it. A field stands in quotes where
+/// it has a comma, a quote or the end of a line. The first record says version 2, and the shares stand in ascending order
+/// of their services. A window's own attributes stand directly after its record, and a run's own colours directly after
+/// its.
 pub fn print(alloc: Global, list: &CueList) -> Result<Vec<u8>, AllocError>
     ensures bytes { IfOk result (λ bytes. bytes.items ≡ list_bytes list.now) }
 

@@ -15,10 +15,10 @@ use std::alloc::{AllocError, Global};
 /// Reads a cue list of at most 67,108,864 bytes: CSV (RFC 4180) with records of differing length, no header row, and
 /// fields as they stand; a byte order mark at the start is taken off.
 ///
-/// Records are taken one by one, none is kept, and the first fault ends the reading. `Malformed` has the record's number
-/// among the records that CSV finds (blank lines are none), the field's number, both from 1, and the reason; `Limit` comes
-/// where the list has more than 1,000,000 frames or 20,000 cues. Out of memory may come at any record, in place of what is due; so is
-/// any error of the CSV reader answered, which over bytes in memory has no other.
+/// Records are taken one by one, none is kept, and the first fault ends the reading. `Malformed` has the record's number among the
+/// records that CSV finds (blank lines are none), the field's number, both from 1, and the reason. `Limit` is answered if the list
+/// has more than 1,000,000 frames or 20,000 cues. Out of memory may come at any record, in place of what is due; so is any error of
+/// the CSV reader answered, which over bytes in memory has no other.
 pub fn parse(alloc: Global, bytes: &[u8]) -> Result<CueList, CueFault>
     requires { length bytes.now ≤ whole_limit }
     ensures answer { Answers (read_list bytes.now) result }

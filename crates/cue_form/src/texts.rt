@@ -78,7 +78,7 @@ fn judged_text(alloc: Global, kind: Kind, col: u8, text: &[u8]) -> Result<Text, 
     }
 }
 
-/// The columns of the rows of a cue of the kind: 32, or those of its window.
+/// The columns of the rows of a cue of the kind: 32, or its window's.
 pub fn columns_of(kind: Kind) -> u8
     ensures { result ≡ cue_columns kind }
 {

@@ -9,7 +9,7 @@ use Rattle.frame_carrier.proofs.OnTheWay.{IsOnTheWay, piece_gathered, way_ended,
 use Rattle.text_output.specs.Gathered.{Flushes, Gathers}
 use Rattle.cue_list_commands.specs.Lines.{pair_line, pair_lines}
 
--- the lines of columns are on their way: those of the frames before one are put or held, and these frames, of which this many are left, give the others
+-- the lines of columns are on their way: the earlier frames' lines are put or held, and these frames, of which this many are left, give the others
 abbrev pub LinesOnTheWay : {F : Type 0} → (F → ℕ) → (Columns → ℕ → F → Type 0) → Columns → Option (List ℕ) → Option (List ℕ) → List ℕ → F → List ℕ → Type 0
 LinesOnTheWay {F} left Gives columns old new held frames all =
     (frame : ℕ) × Gives columns frame frames × IsOnTheWay old new (held ++ pair_lines columns frame (left frames)) all

@@ -1,4 +1,4 @@
--- What a run answers that put what is made of a programme, which is that of accepted bytes.
+-- What a run answers that put what is made of a programme that accepted bytes have.
 use Rattle.std.proofs.Common.{◌≡◌, ℕ, List, Option, Some, None, Ok, refl}
 use Rattle.std.specs.Prelude.{IfSome}
 use Rattle.cc_base.specs.Streams.{Puts, Rose}
@@ -16,7 +16,7 @@ use Rattle.frame_carrier.specs.Framing.{Framing, HasFraming}
 use Rattle.frame_carrier.specs.declared.programme.Programme.{Programme}
 use Rattle.cue_list_commands.specs.Made.{IsProgrammeOf}
 
--- what is put of frames is sound, if they are those of accepted bytes
+-- what frames give is sound, if they are the frames of accepted bytes
 module _ {A F : Type 0} (IsAccepted : List ℕ → A → Type 0) (framing_of : A → Framing) (output : Framing → List ℕ) (IsSound : A → Type 0) (Refused : List ℕ → Status → Type 0)
     (sound : (bytes : List ℕ) (made : A) → IsAccepted bytes made → IsSound made) (left : F → ℕ) (Gives : Columns → ℕ → F → Type 0) where
   abbrev Verdict : List ℕ → Status → List ℕ → Type 0

@@ -5,7 +5,7 @@ use Rattle.frame_carrier.specs.Columns.{Columns}
 use Rattle.frame_carrier.specs.Framing.{Framing, HasFraming}
 use Rattle.frame_carrier.specs.declared.programme.Programme.{Programme}
 
--- the programme is that of what the bytes are accepted as
+-- the programme is the programme of what the bytes are accepted as
 pub record IsProgrammeOf {A F : Type 0} (IsAccepted : List ℕ → A → Type 0) (framing_of : A → Framing) (left : F → ℕ) (Gives : Columns → ℕ → F → Type 0) (bytes : List ℕ) (programme : Programme F) : Type 0 where
   pub made : A
   pub accepted : IsAccepted bytes made

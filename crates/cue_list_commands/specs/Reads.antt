@@ -21,7 +21,7 @@ form_status (fault.Memory error) = status.Memory
 form_status (fault.Limit which) = status.Limit which
 form_status (fault.Malformed rec field why) = status.Malformed (Field rec field) why
 
--- the programme is that of the accepted list
+-- the programme is the accepted list's
 abbrev pub IsProgrammeOf : List ℕ → Programme Plan → Type 0
 IsProgrammeOf bytes programme = IsProgrammeMade IsPlacedAs framing_of frames_left GivesFrom bytes programme
 

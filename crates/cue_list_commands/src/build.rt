@@ -8,7 +8,7 @@ use command_base::Status;
 use frame_carrier::put_words;
 use std::alloc::Global;
 
-/// Reads a cue list, and puts the ancillary packets of its frames, gathered so that a put has those of many.
+/// Reads a cue list, and puts the ancillary packets of its frames, gathered so that a put has many frames'.
 pub fn run_build<M: Source, O: Sink>(alloc: Global, input: &mut M, out: &mut O) -> Status
     ensures { RealisesAlone BuildVerdict
         (ends (M.left input.old) (M.faults input.old) (O.written out.old) (O.faults out.old))

@@ -9,7 +9,7 @@ use Rattle.cue_lists.specs.Rules.Former.{nearest_number}
 use Rattle.cue_lists.proofs.Denials.{Denies}
 
 module _ (test : Cue → Bool) (Holds : Cue → Type 0) (denies : (cue : Cue) → Denies (test cue) (Holds cue)) where
-  -- the number that a test finds is that of the nearest cue of which its sentence doesn't hold
+  -- the number that a test finds is the number of the nearest cue of which its sentence doesn't hold
   pub nearest_first : (cues : List Cue) (number : ℕ) → nearest_number test cues ≡ Some number
       → (other : Cue) × (is : IsFirstFailing Holds cues other) × (number ≡ length is.after + 1)
   nearest_first [] number is = cc

@@ -280,7 +280,7 @@ last_number formers cues service id n last remembers one two is at =
 pub formed_back : (cues : List Cue) → All IsCueFormed cues → AllByRecursion IsCueFormed (reverse cues)
 formed_back cues formed = recursion_from_All IsCueFormed (reverse cues) (All-reverse IsCueFormed cues formed)
 
--- the number that is found is that of the nearest that is busy
+-- the number that is found is the number of the nearest cue that is busy
 pub busy_number : (list : Listing) (w : WinCue) (cue : Cue) (cues : List Cue) (formers : Formers) (last found : Option ℕ) → IsCueFormed cue
     → cue.kind ≡ kind.Win w → All IsCueFormed cues → Remembers formers (reverse cues) → AreFaultless list (reverse cues)
     → last ≡ last_in formers w.service w.id → found ≡ number_if (keeps_window cue) last (numbered_cue cues last)
@@ -481,7 +481,7 @@ delays_tell list w cue cues last is formed kept order_kept remembered =
         needless (passes_below 8 (λ id e. uses_window w.service id e.kind) c) (delays_cross list.rate cue c)
         (λ crosses. in_some c c.kind refl its.kind (ap (λ k. same_service k c.kind) (sym is) ∙ first_of (same_service cue.kind c.kind) _ crosses))
 
--- the number that is found is that of the nearest that crosses
+-- the number that is found is the number of the nearest cue that crosses
 pub crossing_number : (list : Listing) (rate : Rate) (w : WinCue) (cue : Cue) (cues : List Cue) (formers : Formers) (found : Option ℕ) (count : ℕ)
     → list.rate ≡ rate → IsCueFormed cue
     → cue.kind ≡ kind.Win w → All IsCueFormed cues → Remembers formers (reverse cues) → AreFaultless list (reverse cues)

@@ -103,7 +103,7 @@ nearest_at test (cue ∷ earlier) = by_test (test cue) (nearest_at test earlier)
     by_test true older numbers = newest
     by_test false older numbers = older ∙ kept (nearest_number test earlier) numbers
 
--- the former cue is that of the former number
+-- the former cue is the cue of the former number
 former_is : (earlier : List Cue) (cue : Cue) (number : Option ℕ) (former : Option Cue)
     → number ≡ former_number cue (reverse earlier) → former ≡ option_and_then (λ n. slice_get earlier (n - 1)) number
     → former ≡ former_cue cue (reverse earlier)
@@ -122,7 +122,7 @@ unfolding verdicts
 order_judged list earlier cue number former broken fault en ef eo is =
     rw (length-reverse, ← en, ← former_is earlier cue number former en ef, ← eo, is) refl
 
--- a cue that keeps it and breaks no rule, or a rule after it: the answer of the verdicts is that of the cue
+-- a cue that keeps it and breaks no rule, or a rule after it: the answer of the verdicts is the cue's
 pub judged : (list : Listing) (earlier : List Cue) (cue : Cue) (number : Option ℕ) (former : Option Cue)
     (v c u b d s p t : Option Against) (r : Result (Unit {0}) RuleFault)
     → number ≡ former_number cue (reverse earlier)

@@ -99,7 +99,7 @@ all_asked : (cues : List Cue) → AllByRecursion (λ (other : Cue). ⊤) cues
 all_asked [] = tt
 all_asked (cue ∷ cues) = (tt, all_asked cues)
 
--- a sentence on the cues of channels, and one on those of services
+-- a sentence on the cues of channels, and one on services' cues
 on_channel : (k : Kind) (P : Type 0) → (is_line21 k ≡ true → P) → (channel : Chan) → kind_lane k ≡ lane.Channel channel → P
 on_channel (kind.Pop own) P all channel is = all refl
 on_channel (kind.Paint own) P all channel is = all refl

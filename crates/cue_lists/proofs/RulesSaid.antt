@@ -1,5 +1,5 @@
--- A list keeps the rules exactly where no cue of it has a fault by the tests, and exactly where the cues of each lane keep them; and
--- its fault is that of the tests.
+-- A list keeps the rules exactly where no cue of it has a fault by the tests, and exactly where the cues of each lane keep them.
+-- Its fault is the one that the tests find.
 use Rattle.std.proofs.Common.{◌≡◌, ℕ, ◌+◌, List, [], ◌∷◌, ◌++◌, get_or, length, reverse, Option, Some, None, refl, sym, ap, subst, ◌∙◌, inl, inr}
 use Rattle.std.specs.Prelude.{All}
 use Rattle.std.specs.List.{AllByRecursion}
@@ -153,7 +153,7 @@ module _ (list : Listing) (earlier : List Cue) (cue : Cue) where
       (subst (λ (n : ℕ). a ≡ record { why = a.why; cue = n; other = b.other }) cue_is
       (subst (λ (o : Option ℕ). a ≡ record { why = a.why; cue = a.cue; other = o }) other_is refl))
 
-  -- a fault of the cue is that of the tests
+  -- a fault of the cue is the one that the tests find
   fault_is_tested : (fault : RuleFault) → IsFaultOf rules fault → fault_of list earlier cue ≡ Some fault
   fault_is_tested fault is = by_fault (fault_of list earlier cue) refl
     where

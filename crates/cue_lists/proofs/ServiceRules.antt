@@ -144,7 +144,7 @@ pub no_number : (o : Option ℕ) → (with_earlier o).broken ≡ false → o ≡
 no_number None fails = refl
 no_number (Some number) fails = cc
 
--- what holds of all holds of those of the service, and where it holds of these and of the others, of all
+-- what holds of all cues holds of the service's, and where it holds of these and of the others, of all
 module _ (P : Cue → Type 0) (service : ℕ) where
   of_service : (cues : List Cue) → AllByRecursion P cues → AllByRecursion P (cues_of_service service cues)
   of_service [] all = tt
@@ -196,7 +196,7 @@ sound_window list service earlier cue on keeps =
     if_there None P each = tt
     if_there (Some hide) P each = each hide refl
 
--- the LOAD of the newest of the cues isn't above that of a cue, and so none is
+-- the LOAD of the newest of the cues isn't above this cue's, and so none is
 abbrev pub LoadsUpTo : ℕ → List Cue → Type 0
 LoadsUpTo load cues = AllByRecursion (λ (former : Cue). former.load ≤ load) cues
 

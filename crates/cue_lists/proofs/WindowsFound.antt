@@ -1,4 +1,4 @@
--- The window that is found for an id is that of each cue that is shown in it.
+-- The window that is found for an id is the window of each cue that is shown in it.
 use Rattle.std.proofs.Common.{◌≡◌, ℕ, Bool, true, false, if◌then◌else◌, List, [], ◌∷◌, find, Option, Some, None, refl}
 use Rattle.std.specs.List.{AllByRecursion}
 use Rattle.std.specs.Option.{option_and_then}

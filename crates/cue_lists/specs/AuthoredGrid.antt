@@ -34,7 +34,7 @@ abbrev pub cell_in : Pen → Run → ℕ → Option Cell
 cell_in (pen.Line21 style) run column = Some (record { ch = character_at run column; style = style })
 cell_in (pen.Dtv italic underline) run column = None
 
--- the cells of runs: those of the run that covers the place
+-- the cells of runs: at a place, the cell of the run that covers it
 abbrev pub cells_of : List Run → Picture
 cells_of [] row column = None
 cells_of (run ∷ runs) row column = if covers run row column then cell_in run.pen run column else cells_of runs row column

@@ -28,8 +28,8 @@ abbrev pub written_as : ℕ → Pen → PenAttr
 written_as style (pen.Line21 line21) = (pen_style style).0
 written_as style (pen.Dtv italic underline) = record (pen_style style).0 { italic = italic; underline = underline }
 
--- the cell of a run at a column: character j of its text stands at COL + j, in the run's colours, or else in those of the pen
--- style
+-- the cell of a run at a column: character j of its text stands at COL + j, in the run's colours, or else in the pen
+-- style's
 abbrev pub cell_at : ℕ → Run → ℕ → DCell
 cell_at style run column = record {
   ch = slice_index_or run.text (column - run.col) 0x20;
@@ -37,13 +37,13 @@ cell_at style run column = record {
   colors = unwrap_or run.colors (pen_style style).1;
 }
 
--- the cells of runs: those of the run that has the place
+-- the cells of runs: at a place, the cell of the run that has it
 abbrev pub written_cells : ℕ → List Run → Cells
 written_cells style [] row column = None
 written_cells style (run ∷ runs) row column = if has_place run row column then Some (cell_at style run column) else written_cells style runs row column
 
 -- the window of a cue as it is seen: its anchor isn't relative, its rows and columns are locked, and it has its own attributes,
--- or else those of its window style
+-- or else its window style's
 abbrev pub authored_window : WinCue → List Run → ShownWindow
 authored_window window runs = record {
   relative = false;
@@ -86,7 +86,7 @@ AreOneAtATime service id frame (cue ∷ later) =
     (shows_in service id frame cue ≡ true → AllByRecursion (λ (other : Cue). shows_in service id frame other ≡ false) later)
     × AreOneAtATime service id frame later
 
--- a window is that of each cue that is shown in it, and none where no cue is
+-- a window is the window of each cue that is shown in it, and none where no cue is
 pub record IsWindowAt (service id frame : ℕ) (cues : List Cue) (window : Option ShownWindow) : Type 0 where
   pub has : AllByRecursion (λ (cue : Cue). shows_in service id frame cue ≡ true → window ≡ cue_window cue.kind cue.runs) cues
   pub none : AllByRecursion (λ (cue : Cue). shows_in service id frame cue ≡ false) cues → window ≡ None

@@ -30,7 +30,7 @@ pub mod Tests
 pub record IsRuled (list : Listing) : Type 0 where
   pub kept : KeepRules list (reverse list.cues)
 
--- the list has this fault: that of its first cue that breaks a rule, by the first rule that it breaks
+-- the list has this fault: the fault of its first cue that breaks a rule, by the first rule that it breaks
 pub record HasFault (list : Listing) (fault : RuleFault) : Type 0 where
   pub earlier : List Cue
   pub cue : Cue

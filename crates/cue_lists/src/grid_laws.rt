@@ -44,7 +44,7 @@ pub fn a_window_shows_from_its_show_to_its_hide()
     ensures elsewhere { authored_windows 2 two_windows 60 0 ≡ None }
 {}
 
-/// A window's place isn't relative, both its locks are on, and it has its own attributes, or else those of its style.
+/// A window's place isn't relative, both its locks are on, and it has its own attributes, or else its style's.
 pub fn a_window_has_its_attributes()
     ensures own { option_map ways_of (authored_windows 1 two_windows 60 0)
         ≡ Some (false, true, true, centred) }
@@ -52,7 +52,7 @@ pub fn a_window_has_its_attributes()
         ≡ Some (window_style 4) }
 {}
 
-/// A run has its characters from its COL on, in its own colours, or else in those of the pen style, with its own italics.
+/// A run has its characters from its COL on, in its own colours, or else in the pen style's, with its own italics.
 pub fn a_window_has_the_cells_of_its_runs()
     ensures coloured { option_and_then (λ w. w.cells 0 1) (authored_windows 1 two_windows 60 0)
         ≡ cell 73 false yellow }

@@ -45,7 +45,7 @@ pub struct RuleFault {
 /// Judges the cues of a list in order, each against itself and the cues before it.
 ///
 /// Ok where each cue keeps the rules; else the fault of the first cue that breaks one.
-/// It takes no memory, and time in proportion to the cues and their runs: of the cues before one, it looks at the former cue
+/// It takes no memory, and time in proportion to the cues and their runs. Of the cues before one, it looks at the former cue
 /// and at the last one in each window of its service.
 pub fn check(list: &CueList) -> Result<(), RuleFault>
     ensures judged { MatchResult result (λ _. IsRuled list.now) (λ fault. HasFault list.now fault) }

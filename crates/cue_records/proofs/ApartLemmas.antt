@@ -1,4 +1,4 @@
--- The records of one cue give the same after those of a list as by themselves.
+-- The records of one cue give the same after a list's records as by themselves.
 use Rattle.std.proofs.Common.{◌≡◌, ◌∙◌, ℕ, ◌+◌, ◌<◌, Bool, true, false, if◌then◌else◌, List, [], ◌∷◌, ◌++◌, length, Option, Some, None, Result, Ok, Err, refl, sym, ap, arith}
 use Rattle.std.specs.Prelude.{◌&&◌, nat_lt, option_map, option_to_list}
 use Rattle.std.specs.List.{AllByRecursion}

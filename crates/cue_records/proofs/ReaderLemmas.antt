@@ -29,7 +29,7 @@ ended_held begun front byte old new is held leads = (
   rw (← append_assoc begun front (byte ∷ [])) (ends_more st.StartRecord (csv_state old.state) (begun ++ front) byte is.state leads),
 )
 
--- a text that begins with a line feed has no byte order mark, and its first record is that of the rest
+-- a text that begins with a line feed has no byte order mark, and its first record is the rest's first record
 pub after_line_feed : (text begun : List ℕ) (found : Bool) (row : Record) → text ≡ 10 ∷ begun
     → GivesRead (next_record default_config st.StartRecord [] [] (strip_bom text)) found row → GivesRead (next_record default_config st.StartRecord [] [] begun) found row
 unfolding next_record strip_bom

@@ -56,8 +56,8 @@ list_of head shares cues = record { rate = head.rate; frames = head.frames; shar
 abbrev pub read_apart : Head → ℕ → List Record → Result Listing CueFault
 read_apart head number records = read_from (begun_with head [] [] None) number records
 
--- the records of one cue, after those of a list whose last cue has a run and which has room for one more, give the list with the cue that they
--- give by themselves, or the fault that they have by themselves
+-- the records of one cue are read after the records of a list whose last cue has a run and which has room for one more. They give the
+-- list with the cue that they give by themselves, or the fault that they have by themselves
 abbrev pub CueIsReadApart : Type 0
 CueIsReadApart = (head : Head) (shares : List Share) (earlier : List Cue) (last : Option Cue) (number : ℕ) (records : List Record)
     → AreOfCue records → awaits_run last ≡ false → length (earlier ++ option_to_list last) < most_cues

@@ -12,8 +12,8 @@ pub record IsOpen (begun : List ℕ) (reader : RecordReader) : Type 0 where
   pub held : reader.held.items ≡ 10 ∷ begun
   pub state : StaysOpen st.StartRecord begun (csv_state reader.state)
 
--- of the bytes that a reader was fed these records have ended: whatever follows, the records of all are these, and after them those of the
--- open bytes and of what follows
+-- of the bytes that a reader was fed these records have ended: whatever follows, the records of all are these, and after them the
+-- records of the open bytes and of what follows
 pub record HasCut (bytes : List ℕ) (rows : List Record) (reader : RecordReader) : Type 0 where
   pub begun : List ℕ
   pub is_open : IsOpen begun reader

@@ -3,12 +3,12 @@
 ghost use Rattle.cue_records.specs.CueApart.{CueIsReadApart};
 ghost use Rattle.cue_records.specs.CueSpelled.{ApartIsFaulty, ApartIsSpelled};
 
-/// The records of one cue give after those of a list what they give by themselves, and offend where they do by themselves.
+/// The records of one cue give after a list's records what they give by themselves, and offend where they do by themselves.
 pub fn cue_is_read_apart()
     ensures { CueIsReadApart }
 {}
 
-/// The record of a list's head and those of a cue spell the list that these give by themselves.
+/// The record of a list's head and the records of a cue spell the list that these give by themselves.
 pub fn apart_is_spelled()
     ensures { ApartIsSpelled }
 {}

@@ -1,4 +1,4 @@
-//! Records of cue lists as they come: those that are found in bytes that come in any pieces, and those of one cue by themselves.
+//! Records of cue lists as they come: the records that are found in bytes that come in any pieces, and one cue's records by themselves.
 #![tactic(auto)]
 
 pub use crate::cue_reader::CueReader;

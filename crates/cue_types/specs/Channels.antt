@@ -1,5 +1,5 @@
 -- Believed in part: the program's answer stands on some of these definitions.
--- The cues of each channel of line 21, those of each service of DTVCC, and those in each of its windows, in the order of the list.
+-- The cues of each channel of line 21, of each service of DTVCC, and of each of its windows, in the order of the list.
 use Rattle.std.specs.Prelude.{ℕ, ◌==◌, ◌&&◌, Bool, false, List}
 use Rattle.std.specs.List.{filter}
 use Rattle.line21_codes.specs.declared.channels.Chan.{Chan}

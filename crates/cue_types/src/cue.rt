@@ -41,7 +41,7 @@ pub struct WinCue {
     pub ws: u8,
     /// The predefined pen style, 1 to 7.
     pub ps: u8,
-    /// The window's attributes (CTA-708-E, SWA); without them, those of the window style.
+    /// The window's attributes (CTA-708-E, SWA); without them, the window style's.
     pub attr: Option<WinAttr>,
 }
 
@@ -65,7 +65,7 @@ pub struct Run {
     pub pen: Pen,
     /// The characters, one a column.
     pub text: Text,
-    /// The colours of a window's run (CTA-708-E, SPC); without them, those of the window's pen style. A line 21 run has none.
+    /// The colours of a window's run (CTA-708-E, SPC); without them, the window's pen style's. A line 21 run has none.
     pub colors: Option<PenColors>,
 }
 

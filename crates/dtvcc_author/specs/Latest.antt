@@ -39,7 +39,7 @@ pub record IsLatestAt (cs : List Caption) (frame : ℕ) (latest : Latest) : Type
 abbrev pub caption_delay : Caption → Delay
 caption_delay c = record { tenths = c.tenths; windows = windows_byte (λ id. c.id == id); ends = c.show }
 
--- the events are those of the captions in the frame
+-- the events are the captions' in the frame
 pub record AreEventsOf (frame : ℕ) (cs : List Caption) (events : FrameEvents) : Type 0 where
   pub hidden : events.hidden ≡ windows_byte (names (is_hidden_at frame) cs)
   pub shown : events.shown ≡ windows_byte (names (is_shown_at frame) cs)

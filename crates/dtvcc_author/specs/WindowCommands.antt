@@ -1,5 +1,5 @@
 -- Believed in part: the program's answer stands on some of these definitions.
--- The commands that load a caption into its window (CTA-708-E, DefineWindow, SetWindowAttributes, and those of pens and text).
+-- The commands that load a caption into its window (CTA-708-E, DefineWindow, SetWindowAttributes, and the commands of pens and text).
 use Rattle.std.specs.Prelude.{ℕ, Bool, true, false, if◌then◌else◌, List, [], ◌∷◌, ◌++◌, Option, Some, None, is_some, map, unwrap_or}
 use Rattle.std.specs.List.{flat_map, list_any}
 use Rattle.dtvcc_codes.specs.declared.commands.Command.{Command}
@@ -44,12 +44,12 @@ attribute_commands (Some attributes) = Swa attributes ∷ []
 abbrev pub are_coloured : List Run → Bool
 are_coloured runs = list_any (λ run. is_some run.colors) runs
 
--- the pen of a run: that of the window's pen style, with the run's italics and underline
+-- the pen of a run: the pen of the window's pen style, with the run's italics and underline
 abbrev pub run_pen : PenAttr → Pen → PenAttr
 run_pen style (Line21 _) = style
 run_pen style (Dtv italic underline) = record style { italic = italic; underline = underline }
 
--- the colours of a run, its own or those of the pen style, in a cue of which some run has its own
+-- the colours of a run, its own or the pen style's, in a cue of which some run has its own
 abbrev pub color_commands : Bool → PenColors → Option PenColors → List Command
 color_commands coloured style own = if coloured then Spc (unwrap_or own style) ∷ [] else []
 

@@ -120,7 +120,7 @@ fn push_run(
     push_characters(units, run.text.as_slice())
 }
 
-// The pen of a run: that of the window's style, with the run's italics and underline.
+// The pen of a run: the pen of the window's style, with the run's italics and underline.
 fn pen_of(style: PenAttr, pen: Pen) -> PenAttr
     ensures { result ≡ run_pen style pen }
 {

@@ -9,9 +9,10 @@ use crate::unit::DUnits;
 use cue_types::{Cue, Kind};
 use std::alloc::{AllocError, Global};
 
-/// The units of a window cue, in the order in which its service sends them: DefineWindow of a hidden window, its attributes
-/// where the cue has its own, and for each run its location, its pen, its colours where some run of the cue has its own, and
-/// its characters (CTA-708-E, DF, SWA, SPL, SPA, SPC). A line 21 cue has none. `AllocError` where there is no memory for them.
+/// The units of a window cue, in the order in which its service sends them (CTA-708-E, DF, SWA, SPL, SPA, SPC). These are
+/// DefineWindow of a hidden window, its attributes where the cue has its own, and for each run its location, its pen, its
+/// colours and its characters. The colours are sent where some run of the cue has its own. A line 21 cue has none.
+/// `AllocError` where there is no memory for them.
 pub fn units(alloc: Global, cue: &Cue) -> Result<DUnits, AllocError>
     requires { IsCueFormed cue.now }
     ensures units { IfOk result (λ units. units ≡ window_cue_units cue.now) }

@@ -10,13 +10,13 @@ use crate::frame_events::{Delay, FrameEvents, windows_byte};
 /// The bit of each window.
 const BITS: [u8; 8] = [0x01, 0x02, 0x04, 0x08, 0x10, 0x20, 0x40, 0x80];
 
-/// In each window of a service the caption that was loaded last before a frame, so that the events of the frame are told
+/// In each window of a service the caption that was loaded last before a frame, so that the events of the frame are found
 /// without going through all captions.
 #[derive(Clone, Copy)]
 pub struct Latest {
     // How many captions were loaded.
     next: usize,
-    // No caption of a window has an event before this frame; so most frames are told to have none by one comparison.
+    // No caption of a window has an event before this frame; so for most frames one comparison shows that they have none.
     quiet: u32,
     windows: [Option<Caption>; 8],
 }

@@ -88,7 +88,7 @@ impl PackedUnits {
         self.lengths.len()
     }
 
-    /// A unit, whose bytes start after those of the units before it.
+    /// A unit, whose bytes start after the earlier units' bytes.
     pub fn unit(&self, index: usize, start: usize) -> &[u8]
         requires index { index < length self.now }
         requires start { start ≡ bytes_before index self.now }

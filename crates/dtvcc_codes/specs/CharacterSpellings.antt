@@ -5,7 +5,7 @@ use Rattle.std.specs.Option.{option_map, option_or}
 use Rattle.dtvcc_codes.specs.Characters.{g2_characters}
 use Rattle.dtvcc_codes.specs.CodeTables.{ext1}
 
--- by G0: ♪ is 7F, and the other characters are those of ASCII
+-- by G0: ♪ is 7F, and the other characters are ASCII's
 abbrev pub g0_spelling : ℕ → Option (List ℕ)
 g0_spelling ch =
     if ch == 0x266A then Some (0x7F ∷ [])

@@ -86,7 +86,7 @@ base_codes =
     ++ row 0xA0 0xFF 0 (λ code parameters. Put (Some (g1_of code)))
     ∷ []
 
--- the codes after EXT1, but for those of C3 that say themselves how many bytes follow
+-- the codes after EXT1, but for the codes of C3 that say themselves how many bytes follow
 abbrev pub extended_codes : List Row
 extended_codes =
     -- C2

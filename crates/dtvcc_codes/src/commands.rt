@@ -44,6 +44,6 @@ pub enum Command {
     Swa(WinAttr),
     /// DefineWindow (DF0 to DF7).
     Df(Definition),
-    /// A code that a receiver passes over, with its parameters: those of C0, C1, C2 and C3 that have no meaning here.
+    /// A code that a receiver passes over, with its parameters: the codes of C0, C1, C2 and C3 that have no meaning here.
     Skipped,
 }

@@ -1,5 +1,5 @@
--- The clock of a service doesn't matter: what counted more frames before does the same with the same events, and ends each delay so
--- many frames later on its own clock. So a service that was reset shows the same, whatever its clock had counted by then.
+-- The clock of a service doesn't matter: what counted more frames before does the same with the same events, and ends each delay
+-- as many frames later on its own clock. So a service that was reset shows the same, whatever its clock had counted by then.
 use Rattle.std.proofs.Common.{◌≡◌, ◌∙◌, ℕ, ◌+◌, ◌-◌, ◌≤◌, ◌==◌, inl, inr, Bool, true, false, if◌then◌else◌, List, [], ◌∷◌, ◌++◌, length, Option, Some, None, refl, sym, ap, arith}
 use Rattle.std.specs.Prelude.{option_map}
 use Rattle.std.proofs.lemmas.Bool.{cases_lt}

@@ -34,7 +34,7 @@ is_cancel None = false
 is_cancel (Some Dlc) = true
 is_cancel (Some _) = false
 
--- the tenths of a second for which a command puts off what follows it: those of Delay, and of no other
+-- the tenths of a second for which a command puts off what follows it: Delay's, and no other's
 abbrev pub tenths_of : Command → ℕ
 tenths_of (Dly tenths) = tenths
 tenths_of _ = 0

@@ -9,8 +9,8 @@ use dtvcc_windows::Window;
 use std::alloc::{AllocError, Global};
 use std::mem;
 
-/// A service without a clock of its own: its windows, and what a delay holds (CTA-708-E). Each call is told what all services
-/// are told of the frames.
+/// A service without a clock of its own: its windows, and what a delay holds (CTA-708-E). Each call is given what all services
+/// know of the frames.
 #[derive(Drop)]
 pub struct Core {
     screen: Screen,

@@ -11,7 +11,7 @@ ghost use Rattle.dtvcc_screen.specs.Meaning.{Event, Reset, Served, on_event, ser
 ghost use Rattle.dtvcc_screen.specs.Screens.{ScreenState, empty_screen};
 ghost use Rattle.dtvcc_screen.specs.Shown.{grids};
 
-/// A delay only puts off: where all that is held has acted, the screen is the one to which all commands lead that came, in the
+/// A delay only puts off. Where all that is held has acted, the screen is the one to which all commands lead that came, in the
 /// order in which they came, as if there were no delays.
 pub fn delays_only_put_off()
     ensures { (events : List Event) → HasNoReset [] events

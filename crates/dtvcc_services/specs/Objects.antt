@@ -21,7 +21,7 @@ Events = ℕ → List Event
 abbrev pub service_behind : Events → ℕ → Served
 service_behind events service = served_after start (events service)
 
--- after its events of the frames before, and those of the present frame
+-- after its events of the frames before, and of the present frame
 abbrev pub served_now : Events → Events → ℕ → Served
 served_now before frame service = served_after start (before service ++ frame service)
 

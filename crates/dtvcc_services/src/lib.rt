@@ -1,4 +1,4 @@
-//! The 63 services of a DTVCC caption channel (CTA-708-E) under one clock: what a frame costs is what its bytes cost, and the
+//! The 63 services of a DTVCC caption channel (CTA-708-E) under one clock. What a frame costs is what its bytes cost, and the
 //! services are gone through only in a frame in which a delay may end.
 #![tactic(auto)]
 

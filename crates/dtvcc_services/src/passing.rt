@@ -15,7 +15,7 @@ pub(crate) struct Passed {
     pub(crate) seen: bool,
 }
 
-/// Whether a number is that of a service.
+/// Whether a number is a service's.
 pub(crate) fn is_service(number: u8) -> bool
     ensures yes { result ≡ true → IsService number }
     ensures no { result ≡ false → IsService number → ⊥ }

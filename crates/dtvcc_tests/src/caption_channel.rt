@@ -10,8 +10,8 @@ ghost use Rattle.channel_packets.specs.Written.{continuing, starting};
 mod reading;
 mod writing;
 
-// A packet whose size code is 0 has 127 bytes after its header, those of 63 triplets and one; further bytes belong to no
-// packet.
+// A packet whose size code is 0 has 127 bytes after its header, one in the header's triplet and two in each of 63 more; further
+// bytes belong to no packet.
 fn a_size_code_of_0_is_127_bytes()
     ensures { AreChannelPackets (record { header = 0x40; bytes = replicate 127 0x41 } ∷ [])
         (starting 0x40 0x41 ∷ (replicate 63 (continuing 0x41 0x41) ++ continuing 0x42 0x42 ∷ [])) }

@@ -17,7 +17,7 @@ pub chosen : (b : Bool) (x y : Option DCell) → (b ≡ true → x ≡ y) → (b
 chosen true x y inside outside = inside refl
 chosen false x y inside outside = sym (outside refl)
 
--- cells are those of a list which agrees with them at each place, where there are none elsewhere
+-- cells are the cells of a list which agrees with them at each place, where there are none elsewhere
 pub cells_are : (places : List (Option DCell)) (g : Cells) → ((r c : ℕ) → in_size 16 64 r c ≡ true → get_or places (place r c) None ≡ g r c) → ((r c : ℕ) → in_size 16 64 r c ≡ false → g r c ≡ None) → listed_cells places ≡ g
 unfolding listed_cells
 cells_are places g inside outside = fun_ext (λ r. fun_ext (λ c. chosen (in_size 16 64 r c) (get_or places (place r c) None) (g r c) (inside r c) (outside r c)))

@@ -37,7 +37,7 @@ no_cells-within rows cols r c outside = refl
 pub cells_in-within : (rows cols : ℕ) (g : Cells) → IsWithin rows cols (cells_in rows cols g)
 cells_in-within rows cols g r c outside = chosen_not (in_size rows cols r c) (g r c) None outside
 
--- cells within a size are those of the size
+-- cells within a size are the size's cells
 at_size : (b : Bool) (x : Option DCell) → (b ≡ false → x ≡ None) → (if b then x else None) ≡ x
 at_size true x none = refl
 at_size false x none = sym (none refl)
@@ -45,7 +45,7 @@ at_size false x none = sym (none refl)
 pub cells_in-all : (rows cols : ℕ) (g : Cells) → IsWithin rows cols g → cells_in rows cols g ≡ g
 cells_in-all rows cols g within = fun_ext (λ r. fun_ext (λ c. at_size (in_size rows cols r c) (g r c) (within r c)))
 
--- and those of a size that isn't smaller
+-- and the cells of a size that isn't smaller
 pub within-larger : (rows cols more_rows more_cols : ℕ) (g : Cells) → rows ≤ more_rows → cols ≤ more_cols → IsWithin rows cols g → IsWithin more_rows more_cols g
 within-larger rows cols more_rows more_cols g row_le col_le within r c outside = within r c (grind (arith, nat_tests))
 

@@ -186,7 +186,7 @@ impl Cells {
         }
     }
 
-    // Keeps the cells that lie in the sizes of two definitions, where all lie in that of the first.
+    // Keeps the cells that lie in the sizes of two definitions, where all lie in the first one's.
     pub(crate) fn refit(&mut self, old: &Definition, new: &Definition)
         requires filled { vec_len self.old.places ≡ 1024 }
         requires rows { new.now.rows ≤ 16 }

@@ -1,5 +1,5 @@
 -- Believed: the program's answer stands on these definitions.
--- What is put of two lists, and what holds of it.
+-- The words that `dual` puts of two lists, and what holds of them.
 use Rattle.cue_list_commands.specs.Output.{list_windows}
 use Rattle.dual_commands.specs.DualLists.{PlacedLists}
 use Rattle.dual_plans.specs.DualShown.{dual_grids, dual_told}

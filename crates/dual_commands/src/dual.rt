@@ -13,12 +13,12 @@ use cue_lists::RuleFault;
 use dual_plans::{DualFault, plan_dual};
 use std::alloc::Global;
 
-/// Reads a second cue list from a side file and judges it, then a first one from the input, and puts the ancillary packets of the
+/// Reads a second cue list from a side file and judges it, then a first one from the input. Puts the ancillary packets of the
 /// frames of both, gathered so that a put has many: the first list on CC1, CC3 and its services, the second on CC2 and CC4.
 ///
-/// Where both keep the rules, the lists are refused, in this order: Malformed (OtherList) where the second has another rate, another
-/// number of frames or a share; Rule (FieldClash) where events of both hold one slot of a field; NoRoom where a cue of the first has
-/// no placement beside the second's events; NoRoomBeside where one of the second has none beside the first.
+/// Where both keep the rules, the lists are refused in this order: Malformed (OtherList) if the second has another rate, another
+/// number of frames or a share; Rule (FieldClash) if events of both hold one slot of a field. Then comes NoRoom if a cue of the
+/// first has no placement beside the second's events, and NoRoomBeside if one of the second has none beside the first.
 pub fn run_dual<M: Source, S: Source, O: Sink>(
     alloc: Global,
     input: &mut M,

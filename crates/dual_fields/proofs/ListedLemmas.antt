@@ -51,7 +51,7 @@ use Rattle.dual_fields.specs.Resuming.{keeps_mode, opens}
 use Rattle.dual_fields.specs.Sharing.{IsFor, is_text}
 use Rattle.dual_fields.specs.Together.{AreOfChannel, IsListed, IsOfChannel}
 
--- the units are those of the channel
+-- the units are the channel's
 chunks_later : (first : Unit) (chunks : List FieldChunk) → part_chunks (map (later_part first) chunks) ≡ chunks
 chunks_later first [] = refl
 chunks_later first (chunk ∷ chunks) = ap (λ (l : List FieldChunk). chunk ∷ l) (chunks_later first chunks)

@@ -239,7 +239,7 @@ module _ (f : FieldNumber) where
             let it : Some w ≡ Some unit = sym (ap (λ u. option_or u (stands (part_chunks parts) fs n)) at) ∙ is in
             let same : w ≡ unit = cc in subst (IsOfChannel One) same (listed.events_own n w at)
 
-  -- where units stand in the second lane, those of the first channel stand in a lane of their own
+  -- where units stand in the second lane, the first channel's units stand in a lane of their own
   back : (slots : Slots) (end : ℕ) (parts : List Part) (fs : List ℕ) (rs : List (Option ℕ)) → Stand slots end (second_parts f parts) fs rs → Stand slots end parts fs rs
   back slots end [] [] [] stand = tt
   back slots end [] [] (r ∷ rs) stand = absurd stand

@@ -18,7 +18,7 @@ abbrev pub parts_of : List FieldChunk → List Part
 parts_of [] = []
 parts_of (chunk ∷ chunks) = record { chunk = chunk; first = chunk.unit; later = false } ∷ map (later_part chunk.unit) chunks
 
--- those of the cues on a channel, where the first cue has this number
+-- the units of the cues on a channel, where the first cue has this number
 abbrev pub parts_from : Chan → ℕ → List Cue → List Part
 parts_from channel number [] = []
 parts_from channel number (cue ∷ cues) =

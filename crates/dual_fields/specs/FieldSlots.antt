@@ -1,5 +1,5 @@
 -- Believed: the program's answer stands on these definitions.
--- The slots of a field that two lists share: for the lane of the first list, which is placed first, and for that of the second.
+-- The slots of a field that two lists share: for the lane of the first list, which is placed first, and for the second list's lane.
 use Rattle.std.specs.Prelude.{ℕ, zero, suc, ◌&&◌, ◌||◌, not, is_some, Bool}
 use Rattle.lanes.specs.Timeline.{Timeline}
 use Rattle.dual_fields.specs.Slots.{Slots}
@@ -16,7 +16,7 @@ first_slots one two = record {
   foreign = λ n. holds two n;
 }
 
--- those of the second: the first list's events and its spans are foreign
+-- the second lane's slots: the first list's events and its spans are foreign
 abbrev pub second_slots : Timeline → Timeline → (ℕ → Bool) → Slots
 second_slots one two spans = record {
   free = λ n. not (holds one n) && (not (holds two n) && not (spans n));

@@ -47,7 +47,7 @@ IsBehind false former part = Begins part
 IsBehind true None part = ⊥
 IsBehind true (Some former) part = Continues former part
 
--- the units are those of cues, one after another
+-- the units are cues' units, one after another
 abbrev pub AreCues : Option Part → List Part → Type 0
 AreCues former [] = ⊤
 AreCues former (part ∷ parts) = IsBehind part.later former part × AreCues (Some part) parts

@@ -1,5 +1,5 @@
 -- Between crates: the program's answer stands on none of these definitions.
--- The pair of a slot that two lanes share: that of the first, and where it is null that of the second.
+-- The pair of a slot that two lanes share: the first lane's pair, and where it is null the second's.
 use Rattle.std.specs.Prelude.{◌≡◌, ℕ, suc, false, if◌then◌else◌, Some, None}
 use Rattle.line21_codes.specs.declared.pairs.Pair.{Pair}
 use Rattle.line21_codes.specs.NullPairs.{is_null}

@@ -43,7 +43,7 @@ keeps_mode (Text first second) = true
 keeps_mode (Xds first second) = true
 keeps_mode (Control second control) = keeps control
 
--- the unit is that of a cue's that is under way at the slot, where nothing begins in the timeline
+-- the unit is of a cue that is under way at the slot, where nothing begins in the timeline
 pub record IsResumed (timeline : Timeline) (r : ℕ) (unit : Unit) : Type 0 where
   pub at : ℕ
   pub before : at < r

@@ -1,5 +1,5 @@
 -- Believed in part: the program's answer stands on some of these definitions.
--- What a viewer sees of a field that two cue lists share: the second list's codes are those of data channel 2.
+-- What a viewer sees of a field that two cue lists share: the second list's codes are data channel 2's.
 use Rattle.std.specs.Prelude.{ℕ, true, List, Option, map, option_map}
 use Rattle.line21_codes.specs.declared.channels.Chan.{Chan}
 use Rattle.line21_codes.specs.declared.channels.FieldNumber.{FieldNumber}
@@ -44,7 +44,7 @@ second_part in_field part = record {
 abbrev pub second_parts : FieldNumber → List Part → List Part
 second_parts in_field parts = map (second_part in_field) parts
 
--- the events of the first list's channel, and those of the second's, with the codes of data channel 2
+-- the events of the first list's channel, and the second's, with the codes of data channel 2
 abbrev pub first_events : Chan → List Cue → Timeline
 first_events of_list cues = event_at (channel_events of_list cues)
 

@@ -11,7 +11,7 @@ use Rattle.dual_fields.specs.declared.part.Part.{Part}
 use Rattle.dual_fields.specs.declared.slot_use.SlotUse.{SlotUse}
 use Rattle.dual_fields.specs.declared.slot_use.SlotUse.TheVariants.{Foreign}
 
--- the table of this many slots for the first lane, whose list has these events, beside those of the other list
+-- the table of this many slots for the first lane, whose list has these events, beside the other list's
 pub record IsTable (count : ℕ) (own others : List Event) (uses : List SlotUse) : Type 0 where
   pub count_is : length uses ≡ count
   pub agree : Agree count (first_slots (event_at own) (event_at others)) (slots_in uses)

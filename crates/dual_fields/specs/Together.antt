@@ -32,7 +32,7 @@ AreOfChannel of_channel [] = ⊤
 AreOfChannel of_channel (part ∷ parts) =
     IsOfChannel of_channel part.chunk.unit × IsOfChannel of_channel part.first × AreOfChannel of_channel parts
 
--- a lane as its list gives it: its events lie apart and are control codes, and its units are those of cues
+-- a lane as its list gives it: its events lie apart and are control codes, and its units are cues' units
 pub record IsListed (of_channel : DataChannel) (events : Timeline) (parts : List Part) : Type 0 where
   pub apart : (n : ℕ) (unit : Unit) → events n ≡ Some unit → events (suc n) ≡ None
   pub controls : (n : ℕ) (unit : Unit) → events n ≡ Some unit → is_text (code_of unit.pair) ≡ false

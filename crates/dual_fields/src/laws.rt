@@ -28,7 +28,7 @@ pub fn together_is_alone()
     ensures { TogetherIsAlone }
 {}
 
-/// The pair of a slot that two lanes share is that of the first, and where it is null that of the second.
+/// The pair of a slot that two lanes share is the first lane's, and where it is null the second's.
 pub fn slots_are_overlaid()
     ensures { SlotsAreOverlaid }
 {}

@@ -11,7 +11,7 @@ use crate::slot_use::SlotUse;
 use line21_author::Event;
 use std::alloc::{AllocError, Global};
 
-/// The table of this many slots for the first lane: its own list's events, and those of the other list. `AllocError` where there is
+/// The table of this many slots for the first lane: its own list's events, and the other list's. `AllocError` where there is
 /// no memory for it.
 pub fn table(
     alloc: Global,

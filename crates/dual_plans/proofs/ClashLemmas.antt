@@ -163,7 +163,7 @@ later a b c d test = by_less (nat_lt a b) refl test
     by_less true is test = cc
     by_less false is test = let most : b ≤ a = grind (arith, nat_tests) in by_same (a == b) most refl test
 
--- an event that holds a slot is that of some cue
+-- an event that holds a slot is some cue's
 held_for : (events : List Event) (numbered : List CueEvent) (n : ℕ) → slots_of numbered ≡ event_slots events → list_any (holds_at n) events ≡ true
     → (cue : ℕ) × HoldsFor numbered cue n
 held_for [] numbered n is any = cc

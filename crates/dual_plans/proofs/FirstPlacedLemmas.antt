@@ -37,7 +37,7 @@ use Rattle.dual_plans.specs.declared.field.StartedField.{StartedField}
 use Rattle.dual_plans.proofs.DualLemmas.{first_filled}
 use Rattle.dual_plans.proofs.RoomLemmas.{IsFirstOfField, fault_both, fault_one, fault_two}
 
--- the fault of a lane is that of its field
+-- the fault of a lane is its field's
 pub lane_fault : (slots : Slots) (parts : List Part) (fault : PlanFault) → IsFault slots parts fault
     → IsFaultOf (IsFirstOfField (λ cue. HasRoom (resumed_lane slots) part_cue parts cue)) fault
 lane_fault slots parts (Memory error) is = tt

@@ -75,7 +75,7 @@ module _ (one two : Listing) where
         (first_filled one two Cc3 placed.two.one placed.two.two are.fields.two_is.one_is are.fields.two_is.two_is placed.two.places.items
         are.fields.two_is.filled).earliest
 
-    -- so a fault of the second list is told
+    -- so a fault of the second list is a fault of the pair of lists
     pub second_told : GoTogether one two → (cue : ℕ) → IsSecondFault one two placed (NoRoom cue) → IsDualFault one two (refusals.NoRoomBeside cue)
     second_told together cue is = (
       together,

@@ -5,7 +5,7 @@ use Rattle.line21_codes.specs.declared.pairs.Pair.{Pair}
 use Rattle.lanes.specs.FieldPlan.{PlannedField}
 use Rattle.dual_fields.specs.Overlay.{overlay}
 
--- the pair of the first, and where it is null that of the second; none where the frame has no slot of the field
+-- the first list's pair, and where it is null the second's; none where the frame has no slot of the field
 abbrev pub beside : Option Pair → Option Pair → Option Pair
 beside None second = None
 beside (Some first) None = Some first

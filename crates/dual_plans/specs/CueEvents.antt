@@ -15,13 +15,13 @@ abbrev pub own_events : Chan → Cue → List Cue → List Event
 own_events channel cue later =
     show_events (field_of_channel channel) cue ++ hide_events (field_of_channel channel) cue.hide (cues_on channel later)
 
--- those of the cues on a channel, each with the number of its cue, where the first cue has this number
+-- the events of the cues on a channel, each with the number of its cue, where the first cue has this number
 abbrev pub events_from : Chan → ℕ → List Cue → List CueEvent
 events_from channel number [] = []
 events_from channel number (cue ∷ later) =
     (if is_on channel cue.kind then map (λ event. record { slot = event.slot; cue = number }) (own_events channel cue later) else []) ++ events_from channel (suc number) later
 
--- events as those of the cue of this number
+-- events as the events of the cue of this number
 abbrev pub numbered : ℕ → List Event → List CueEvent
 numbered number events = map (λ event. record { slot = event.slot; cue = number }) events
 

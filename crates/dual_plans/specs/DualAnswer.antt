@@ -32,7 +32,7 @@ pub record IsFirstWithout (one two : Listing) (cue : ℕ) : Type 0 where
   pub fields : (earlier : ℕ) → earlier < cue → (in_field : FieldNumber) → FieldHasRoom one two in_field earlier
   pub services : (earlier : ℕ) → earlier < cue → (service : ℕ) → LaneHasRoom one (Service service) earlier
 
--- the units of the second list in a field up to a cue have a placement beside those of the first in these slots
+-- the units of the second list in a field up to a cue have a placement beside the first list's in these slots
 abbrev pub HasRoomBeside : Listing → Listing → FieldNumber → List ℕ → ℕ → Type 0
 HasRoomBeside one two in_field fs cue =
     HasRoom (resumed_lane (slots_for_second one two (authored_channel in_field) fs)) part_cue (second_units two (authored_channel in_field)) cue

@@ -1,5 +1,5 @@
 -- Between crates: the program's answer stands on none of these definitions.
--- The service blocks of the frames of two lists are those of the first list alone.
+-- The service blocks of the frames of two lists are the first list's alone.
 use Rattle.cue_lists.specs.Listing.{Listing}
 use Rattle.frame_carrier.specs.Planned.{columns_of}
 use Rattle.services_shown.specs.OtherPairs.{AreFitAlike}

@@ -22,7 +22,7 @@ pub record AreStarted (one two : Listing) (in_one in_two : StartedField) : Type 
   pub one_is : IsStarted one two Cc1 in_one
   pub two_is : IsStarted one two Cc3 in_two
 
--- and so do those of its services
+-- and so do its services' units
 pub record IsFirstPlaced (one two : Listing) (placed : FirstPlaced) : Type 0 where
   pub fields : AreStarted one two placed.one placed.two
   pub services : AreServicesPlanned one (shared_below one 7) placed.services.items

@@ -18,7 +18,7 @@ use Rattle.dual_fields.specs.Lanes.{whole}
 use Rattle.dual_fields.specs.Seen.{first_events, second_events}
 use Rattle.dual_plans.specs.FieldPlaces.{AreFieldsPlaces, first_units, second_units}
 
--- where the units of both lists stand in each field, and those of the first list's services
+-- where the units of both lists stand in each field, and of the first list's services
 pub record DualPlacement : Type 0 where
   pub fields : FieldNumber → Places
   pub services : Placement

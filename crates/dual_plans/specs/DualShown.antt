@@ -8,7 +8,7 @@ use Rattle.services_shown.specs.Showing.{ColumnsShow, Grids, Telling}
 use Rattle.dual_plans.specs.DualPlacement.{DualPlacement, IsDualPlaced, dual_columns}
 use Rattle.dual_plans.specs.FieldPlaces.{GoTogether}
 
--- at which frames it is told what a channel shows: those that are settled for it by its own list
+-- at which frames it is known what a channel shows: the ones that are settled for it by its own list
 abbrev pub dual_told : Listing → Listing → Telling
 dual_told one two Cc1 frame = IsSettled Cc1 one.cues frame
 dual_told one two Cc2 frame = IsSettled Cc1 two.cues frame

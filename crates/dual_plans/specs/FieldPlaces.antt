@@ -20,14 +20,14 @@ use Rattle.dual_fields.specs.Dual.{IsDual, Places}
 use Rattle.dual_fields.specs.Seen.{first_events, second_events, second_part}
 use Rattle.dual_plans.specs.OtherList.{AreAlike}
 
--- the units of the first list in the field of a channel, and those of the second, with the codes of data channel 2
+-- the units of the first list in the field of a channel, and of the second, with the codes of data channel 2
 abbrev pub first_units : Listing → Chan → List Part
 first_units list channel = channel_parts channel (slot_cues list channel)
 
 abbrev pub second_units : Listing → Chan → List Part
 second_units list channel = map (second_part (field_of_channel channel)) (first_units list channel)
 
--- the slots for the units of the first list, and for those of the second beside the first list's in these slots
+-- the slots for the units of the first list, and for the second list's beside the first list's in these slots
 abbrev pub slots_for_first : Listing → Listing → Chan → Slots
 slots_for_first one two channel = first_slots (first_events channel (slot_cues one channel)) (second_events channel (slot_cues two channel))
 

@@ -9,7 +9,7 @@ use Rattle.dual_fields.specs.declared.place.Place.{Place}
 use Rattle.dual_fields.specs.Lanes.{AreCues}
 use Rattle.dual_plans.specs.declared.list_lane.ListLane.{ListLane}
 
--- the units are those of cues, and stand in free slots, in which no event of the lane does
+-- the units are cues' units, and stand in free slots, in which no event of the lane does
 pub record CanStand (lane : ListLane) (places : List Place) : Type 0 where
   pub slots : Slots
   pub free : (n : ℕ) → slots.free n ≡ true → IsFree lane.events.items n

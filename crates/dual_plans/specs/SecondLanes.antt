@@ -17,7 +17,7 @@ lanes_at_first one two rate = record { one = one; two = two; rate = rate; frame 
 abbrev pub lanes_last_for : SecondLanes → ℕ
 lanes_last_for lanes = lanes_last lanes.one lanes.two lanes.frame
 
--- they put the pairs of their lanes beside those of the first columns, and this frame is next
+-- they put the pairs of their lanes beside the first columns' pairs, and this frame is next
 pub record LaysBoth (firsts columns : Columns) (frame : ℕ) (lanes : SecondLanes) : Type 0 where
   pub frame_is : lanes.frame ≡ frame
   pub one_at : lanes.one.slot ≡ slot_from (cadence_of lanes.rate Cc1) frame

@@ -16,7 +16,7 @@ pub enum DualFault {
     /// This cue is the first of the first list whose units have no placement.
     #[error("no room: cue {0}")]
     NoRoom(u32),
-    /// This cue is the first of the second list whose units have no placement beside those of the first list.
+    /// This cue is the first of the second list whose units have no placement beside the first list's.
     #[error("no room in CUES: cue {0}")]
     NoRoomBeside(u32),
 }

@@ -9,7 +9,7 @@ pub fn both_lists_are_shown()
     ensures { BothListsAreShown }
 {}
 
-/// The service blocks are those of the first list alone: they are fit, and each service shows what it shows of that.
+/// The service blocks are the first list's alone: they are fit, and each service shows what it shows of that list.
 pub fn dual_blocks_are_fit()
     ensures { DualBlocksAreFit }
 {}

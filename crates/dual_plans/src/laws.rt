@@ -7,8 +7,8 @@ pub fn placed_fields_are_dual()
     ensures { PlacedFieldsAreDual }
 {}
 
-/// Of two lists that go together the units have their placements, or a cue of the first list is its first without one, or a cue of the
-/// second is its first without one beside those of the first.
+/// Of two lists that go together the units have placements, or a cue of the first is its first without one, or a cue of the second is
+/// its first without one beside the first.
 pub fn each_pair_is_judged()
     ensures { EachPairIsJudged }
 {}

@@ -33,10 +33,10 @@ pub struct SecondPlaced {
     pub two: Vec<Place>,
 }
 
-/// Plans two lists that keep the rules: the first on CC1, CC3 and its services, the second on CC2 and CC4 beside it. Refused, in this
-/// order, where the second list has another rate, another number of frames or a share (OtherList); where events of both hold one slot
-/// of a field (FieldClash); where a cue of the first list has no placement (NoRoom); and where one of the second has none beside
-/// those of the first (NoRoomBeside). Memory may run out before any of these is told.
+/// Plans two lists that keep the rules: the first on CC1, CC3 and its services, the second on CC2 and CC4 beside it. They are refused
+/// in this order: OtherList if the second list has another rate, another number of frames or a share, and FieldClash if events of
+/// both hold one slot of a field. Then comes NoRoom if a cue of the first list has no placement, and NoRoomBeside if one of the
+/// second has none beside the first list's. Memory may run out before any of these is found.
 pub fn plan_dual(alloc: Global, first: &CueList, second: &CueList) -> Result<Dual, DualFault>
     requires first { IsRuled first.now }
     requires second { IsRuled second.now }
@@ -89,7 +89,7 @@ fn plan_both(alloc: Global, first: &CueList, second: &CueList) -> Result<Dual, D
     }
 }
 
-// Places the units of the first list in both fields and those of its services, or names its least cue without a placement.
+// Places the units of the first list in both fields and its services', or names its least cue without a placement.
 fn place_first(alloc: Global, first: &CueList, second: &CueList) -> Result<FirstPlaced, PlanFault>
     requires { GoTogether first.now second.now }
     ensures placed { IfOk result (IsFirstPlaced first.now second.now) }
@@ -124,7 +124,7 @@ fn place_fields(
     }
 }
 
-// Places the units of the second list in both fields beside those of the first, or names its least cue without a placement there.
+// Places the units of the second list in both fields beside the first list's, or names its least cue without a placement there.
 fn place_second(
     alloc: Global,
     first: &CueList,

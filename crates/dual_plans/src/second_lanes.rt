@@ -53,7 +53,7 @@ impl Overlay for SecondLanes {
     }
 }
 
-// The pair of a frame, with that of the second lane where the first is null.
+// The pair of a frame, with the second lane's where the first is null.
 fn beside(first: Option<Pair>, lane: &mut PlacedField, cadence: Cadence, frame: u32) -> Option<Pair>
     requires { lane.old.slot + 1 < 2 ^ 32 }
     ensures pair { result ≡ beside first (given_in cadence frame lane.old) }

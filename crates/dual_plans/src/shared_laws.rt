@@ -14,7 +14,7 @@ pub fn lanes_put_other_pairs()
     ensures { LanesPutOtherPairs }
 {}
 
-/// The units of a channel's cues that keep the rules can be placed, and their codes and those of their events written, on both
+/// The units of a channel's cues that keep the rules can be placed, and their codes and their events' written, on both
 /// channels of the field.
 pub fn channels_are_ready()
     ensures { ChannelsAreReady }
@@ -25,7 +25,7 @@ pub fn second_events_begin()
     ensures { SecondEventsBegin }
 {}
 
-/// The units in their places are those of one lane of the longer list of units.
+/// The units in their places are units of one lane of the longer list of units.
 pub fn units_are_of_one_lane()
     ensures { UnitsAreOfOneLane }
 {}

@@ -26,7 +26,7 @@ pub fn every_list_is_fitted()
     ensures { EveryListIsFitted }
 {}
 
-/// The law that a list which is accepted is fitted as it is: what is put of it is what `cues` puts.
+/// The law that a list which is accepted is fitted as it is: the output is what `cues` puts.
 pub fn accepted_is_fitted()
     ensures { AcceptedIsFitted }
 {}

@@ -46,7 +46,7 @@ frame_triplets_bytes rate frame packet one two bytes =
     (All-append IsByteTriplet (field_triplets 1 frame.two) packet (field_bytes 1 frame.two (omega arith) two) bytes))
     (fillers_bytes (triplets_in_frame rate - length (front_triplets frame packet)))
 
--- so are those of a channel packet
+-- so are a channel packet's
 further_bytes : (bytes : List ℕ) → All IsByte bytes → All IsByteTriplet (bytes_written bytes)
 further_bytes [] all = All-nil IsByteTriplet
 further_bytes (a ∷ []) all =
@@ -74,7 +74,7 @@ frame_file rate frame carried packet one two channel roomy =
     let many = (triplets_many rate).1 in
     triplets_file rate frame triplets (omega (arith, number, many)) (frame_triplets_bytes rate carried packet one two channel)
 
--- the triplets of a frame's packet are those of the frame
+-- the triplets of a frame's packet are the frame's
 packet_triplets_are : (rate : Rate) (frame : ℕ) (carried : FrameBytes) (packet : List Triplet) → All IsKind packet
     → packet_triplets (frame_packet rate frame carried packet) ≡ frame_triplets rate carried packet
 packet_triplets_are rate frame carried packet kinds =
@@ -167,7 +167,7 @@ field_is rate carried packet in_field channel =
     ∙ ap (λ l. in_one in_field (option_to_list carried.one) ++ l) two
     ∙ both_is in_field carried
 
--- the triplets of channel packets are those of the frame's
+-- the triplets of channel packets are the frame's packet's
 first_none : (pair : Option Pair) → channel_triplets (field_triplets 0 pair) ≡ []
 first_none None = refl
 first_none (Some pair) = refl
@@ -202,7 +202,7 @@ service_is rate carried count blocks =
     ∙ ap (λ l. l ++ channel_triplets packet) (second_none carried.two)
     ∙ channel_all count blocks
 
--- so are those of its packet
+-- so are its packet's
 pub packet_channel_is : (rate : Rate) (frame : ℕ) (carried : FrameBytes) (count : ℕ)
     → channel_triplets (packet_triplets (frame_packet rate frame carried (channel_packet count carried.blocks.items))) ≡ channel_packet count carried.blocks.items
 packet_channel_is rate frame carried count =
@@ -249,7 +249,7 @@ pairs_from : FieldNumber → Columns → ℕ → ℕ → List Pair
 pairs_from in_field columns frame zero = []
 pairs_from in_field columns frame (suc k) = option_to_list (pair_in in_field (columns frame)) ++ pairs_from in_field columns (suc frame) k
 
--- those of one more frame at the end
+-- the pairs of one more frame at the end
 pairs_from-more : (in_field : FieldNumber) (columns : Columns) (frame k : ℕ)
     → pairs_from in_field columns frame (suc k) ≡ pairs_from in_field columns frame k ++ option_to_list (pair_in in_field (columns (frame + k)))
 unfolding pairs_from

@@ -53,7 +53,7 @@ fillers_kind : (n : ℕ) → All IsKind (replicate n filler)
 fillers_kind zero = All-nil IsKind
 fillers_kind (suc n) = All-cons IsKind filler (replicate n filler) (omega arith) (fillers_kind n)
 
--- so has that of a field
+-- so has a field's triplet
 field_kind : (kind : ℕ) (pair : Option Pair) → kind < 4 → All IsKind (field_triplets kind pair)
 field_kind kind None low = All-nil IsKind
 field_kind kind (Some pair) low = All-cons IsKind (pair_triplet kind pair) [] low (All-nil IsKind)
@@ -77,7 +77,7 @@ frame_number rate frame packet few =
     length-replicate (triplets_in_frame rate - length (front_triplets frame packet)) filler in
     omega (arith, joined, fillers, few, many)
 
--- those of a frame with a pair in each field, where the rate has twenty
+-- the triplets of a frame with a pair in each field, where the rate has twenty
 pub twenty_are : (rate : Rate) (frame : FrameBytes) (one two : Pair) → triplets_in_frame rate ≡ 20 → frame.one ≡ Some one → frame.two ≡ Some two
     → frame_triplets rate frame [] ≡ pair_triplet 0 one ∷ pair_triplet 1 two ∷ replicate 18 filler
 twenty_are rate frame one two number first second = rw (number, first, second) refl

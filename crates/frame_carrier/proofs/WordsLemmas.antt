@@ -27,7 +27,7 @@ first_words rate columns frame old new pairs words left pairs_are words_are =
     ∙ ap (λ (w : List ℕ). w ++ column_bytes rate columns (suc frame) new) (sym (words_are ∙ ap (λ p. frame_bytes rate frame p (channel_packet (packets_before columns frame) p.blocks.items)) pairs_are))
     ∙ ap (λ f. words ++ column_bytes rate columns f new) (sym (add-one frame))
 
--- the words of a frame more were put or are held, as those of any frame after which others come
+-- the words of a frame more were put or are held, like the words of any frame after which others come
 words_passed : {F : Type 0} (left : F → ℕ) (Gives : Columns → ℕ → F → Type 0) (rate : Rate) (columns : Columns) (a b c : Option (List ℕ)) (before after words all : List ℕ) (old new : F) (carrier next_carrier : Carrier) (pairs : FrameBytes)
     → WordsOnTheWay left Gives rate columns a b before old carrier all → left new + 1 ≡ left old
     → ((columns : Columns) (frame : ℕ) → Gives columns frame old → (pairs ≡ columns frame) × Gives columns (frame + 1) new)

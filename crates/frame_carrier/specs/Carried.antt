@@ -35,7 +35,7 @@ abbrev pub AreByteBlocks : Columns → Type 0
 AreByteBlocks columns = (frame : ℕ) → All (λ byte. byte < 256) (columns frame).blocks.items
 
 -- a frame's packet has as many triplets as the rate asks; of those that count each field's have the pair that the frame has in
--- the field, and the others are those of the frame's channel packet
+-- the field, and the others are the frame's channel packet's
 pub record IsCarriedInRoom (rate : Rate) (bytes : FrameBytes) (packet : List Triplet) (frame : Frame) : Type 0 where
   pub number : length (packet_triplets frame) ≡ triplets_in_frame rate
   pub pairs : (in_field : FieldNumber) → field_pairs in_field (packet_triplets frame) ≡ option_to_list (pair_in in_field bytes)

@@ -1,6 +1,6 @@
 -- Believed: the program's answer stands on these definitions.
--- The triplets of a frame (CTA-708-E, cc_data()): the pair of field 1, that of field 2, the triplets of the frame's caption
--- channel packet, and after them triplets that don't count up to the rate's number.
+-- The triplets of a frame (CTA-708-E, cc_data()): the pairs of fields 1 and 2, the triplets of its caption channel packet,
+-- and after them triplets that don't count up to the rate's number.
 use Rattle.std.specs.Prelude.{ℕ, ◌-◌, true, Option, Some, None, List, [], ◌∷◌, ◌++◌, length, replicate}
 use Rattle.cc_base.specs.Rate.{triplets_in_frame}
 use Rattle.cc_base.specs.declared.rate.Rate.{Rate}

@@ -35,8 +35,8 @@ impl Carrier {
         }
     }
 
-    /// The triplets of the next frame: those of the fields in which it has a pair, those of its caption channel packet, where it
-    /// has service blocks, and triplets that don't count up to the rate's number (CTA-708-E).
+    /// The triplets of the next frame (CTA-708-E). They are one for each field in which it has a pair, its caption channel
+    /// packet's, where it has service blocks, and triplets that don't count up to the rate's number.
     pub fn triplets(&mut self, frame: &FrameBytes) -> ArrayVec<Triplet, 31>
         ensures triplets { (rate : Rate) (number count : ℕ) → IsAt rate number count self.old
             → result.items ≡ frame_triplets rate frame.now

@@ -2,9 +2,9 @@
 
 ghost use Rattle.frame_carrier.specs.Carried.{FramesAreCarried};
 
-/// The frames of a programme are carried, at any rate: their bytes are a words file of their packets, each frame has as many
-/// triplets as its rate asks; of those that count one has the pair of each field in which it has a slot, and the others are its
-/// channel packet. A receiver gets of both fields just the pairs.
+/// The frames of a programme are carried, at any rate. Their bytes are a words file of their packets, and each frame has as
+/// many triplets as its rate asks. Of those that count one has the pair of each field in which it has a slot, and the others
+/// are its channel packet. A receiver gets of both fields just the pairs.
 pub fn frames_are_carried()
     ensures { FramesAreCarried }
 {}

@@ -8,7 +8,7 @@ use cc_base::{Put, Sink};
 use frame_scheduler::Frames;
 use text_output::Gathered;
 
-/// Puts the ancillary packets of a programme's frames, gathered so that a put has those of many frames.
+/// Puts the ancillary packets of a programme's frames, gathered so that a put has many frames'.
 pub fn put_words<F: Frames + Drop, O: Sink>(programme: Programme<F>, out: &mut O) -> Put
     ensures bytes { (framing : Framing) → HasFraming F.left F.Gives framing programme
         → Puts (O.written out.old) (O.written out.new) result (words_of framing) }

@@ -9,7 +9,7 @@ use cc_data::{FIELD_1, FIELD_2, FILLER, Triplet};
 use frame_scheduler::FrameBytes;
 use line21_codes::Pair;
 
-/// The triplets of a frame: those of the fields in which it has a pair, those of its channel packet, and triplets that don't
+/// The triplets of a frame: one for each field in which it has a pair, its channel packet's, and triplets that don't
 /// count up to the rate's number.
 pub(crate) fn frame_triplets(
     rate: Rate,

@@ -80,7 +80,7 @@ earliest_room channel l slots placed cue =
     room_all field_chunk_cue (field_lane (channel_events channel (slot_cues l channel))) (channel_chunks channel (slot_cues l channel))
     (channel_in_order channel (slot_cues l channel)) slots placed cue
 
--- so do those of a service
+-- so do a service's units
 pub service_room : (service : ℕ) (l : Listing) (frames : List ℕ) → IsPlaced (service_lane_of l service) [] (chunks_in l service) frames
     → (cue : ℕ) → LaneHasRoom l (Service service) cue
 service_room service l frames placed cue =
@@ -161,7 +161,7 @@ module _ (l : Listing) (formed : IsFormed l) where
   pub off_room : (channel : Chan) → (IsAuthoredChannel channel → ⊥) → IsRoomy l (Channel channel)
   off_room channel other cue = earliest_room channel l [] (off_placed channel other).placed cue
 
-  -- a field's lane is that of CC1 or CC3, or has room
+  -- a field's lane is CC1's or CC3's, or has room
   pub cover_fields : (on : Lane) → IsField on → IsOnly (Channel Cc1) on ⊎ (IsOnly (Channel Cc3) on ⊎ IsRoomy l on)
   cover_fields (Channel Cc1) field = inl refl
   cover_fields (Channel Cc2) field = inr (inr (off_room Cc2 (λ a. a)))
@@ -200,7 +200,7 @@ module _ (l : Listing) (formed : IsFormed l) where
       fault_of_q l (IsOnly (Channel Cc1)) (IsOnly (Channel Cc3)) IsField cover_fields (in_fields Cc1) (in_fields Cc3) fault (channel_fault l Cc3 fault two)
       (planned_room Cc1 planned one)
 
-  -- what the lane of CC3 answers beside that of CC1, which isn't planned
+  -- what the lane of CC3 answers beside CC1's, which isn't planned
   pub refused_beside : (one : PlanFault) (two : Result PlannedField PlanFault) (other : Option PlanFault) → IsFieldFault (events Cc1) (chunks Cc1) one
       → IfOk two (IsFieldPlan (events Cc3) (chunks Cc3)) → IfErr two (IsFieldFault (events Cc3) (chunks Cc3)) → other ≡ result_err two
       → IsFaultIn IsField l (fault_beside one other)

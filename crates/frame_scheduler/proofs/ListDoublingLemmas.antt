@@ -127,7 +127,7 @@ column_and c t n = by_test (has_slot_in c n) refl
     by_test true test = rw test (ap (column t) (sym (slot_more c n test)))
     by_test false test = rw test (append-nil (column t (slot_from c n)) ∙ ap (column t) (sym (slot_no_more c n test)))
 
--- where the pairs of a field are the slots of a timeline, frame by frame, those of the frames below n are its slots in these frames
+-- where the pairs of a field are the slots of a timeline, frame by frame, the pairs in the frames below n are its slots in these frames
 pub pairs_column : (c : Cadence) (t : Timeline) (in_field : FieldNumber) (columns : Columns)
     → ((n : ℕ) → pair_in in_field (columns n) ≡ option_map (slot t) (slot_in c n)) → (n : ℕ) → first_pairs in_field columns n ≡ column t (slot_from c n)
 pairs_column c t in_field columns have zero = ap (column t) (sym (slot_from_first c))

@@ -65,7 +65,7 @@ frame_same a b c d blocks items one two is =
     let same : blocks ≡ record { items = items } = ap (λ (items : List ℕ). record { items = items }) is in
     rw (one, two, same) refl
 
--- the blocks that come next are those of the frame that all lanes are at
+-- the blocks that come next are the blocks of the frame that all lanes are at
 next_at : (planned : List PlannedService) (frame : ℕ) → All (λ one. one.frame ≡ frame) planned → next_blocks planned ≡ blocks_of planned frame
 next_at [] frame at = refl
 next_at (one ∷ rest) frame at =
@@ -173,7 +173,7 @@ two_of (one ∷ (two ∷ (three ∷ rest))) long = absurd (omega arith)
 abbrev Within : ℕ → PlannedField → Type 0
 Within left lane = left + lane.slot < 2 ^ 32
 
--- those of each
+-- the slots that are left for each of two lanes
 both_within : (lanes : List PlannedField) (left : ℕ) → All (Within left) lanes → (one two : PlannedField) → lanes ≡ one ∷ two ∷ [] → Within left one × Within left two
 both_within lanes left within one two is =
     let all : All (Within left) (one ∷ two ∷ []) = subst (All (Within left)) is within in

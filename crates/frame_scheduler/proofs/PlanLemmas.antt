@@ -42,7 +42,7 @@ use Rattle.frame_scheduler.proofs.ServicesLemmas.{IsAmong, below_roomy, planned_
 abbrev pub weight : List Share → ℕ → ℕ
 weight shares service = unwrap_or (option_map (λ (s : Share). s.bytes + 1) (find (λ (s : Share). s.service == service) shares)) 0
 
--- those of the services below a number
+-- the weights of the services below a number
 abbrev pub weights : List Share → ℕ → ℕ
 weights shares zero = 0
 weights shares (suc n) = weights shares n + weight shares n
@@ -246,7 +246,7 @@ module _ (l : Listing) (formed : IsFormed l) (ruled : IsRuled l) where
       found (inl in_it) = let one = planned_of l (shared_below l 7) plans service are in_it in (one.0.frames, one.1.earliest)
       found (inr none) = ([], unshared_placed l service ruled none)
 
-  -- the block of a planned lane is that of its service
+  -- the block of a planned lane is its service's
   lane_is : (placed : Placement) (service : ℕ) (planned : PlannedService) (frame : ℕ) → IsLanePlaced l (Service service) (placed (Service service))
       → IsServicePlanned l service planned
       → lane_block frame planned ≡ service_block service (service_bytes l service (placed (Service service)) frame)
@@ -266,7 +266,7 @@ module _ (l : Listing) (formed : IsFormed l) (ruled : IsRuled l) where
       ap (λ cs. service_block service (bytes_in cs (zip (chunks_in l service) (placed (Service service))) frame)) sent.0
       ∙ ap (λ us. service_block service (bytes_in [] (zip us (placed (Service service))) frame)) sent.1
 
-  -- the blocks of planned lanes are those of their services
+  -- the blocks of planned lanes are their services' blocks
   lanes_are : (placed : Placement) (frame : ℕ) → ((service : ℕ) → IsLanePlaced l (Service service) (placed (Service service)))
       → (ss : List ℕ) (plans : List PlannedService) → AreServicesPlanned l ss plans
       → blocks_of plans frame ≡ flat_map (λ service. service_block service (service_bytes l service (placed (Service service)) frame)) ss
@@ -278,7 +278,7 @@ module _ (l : Listing) (formed : IsFormed l) (ruled : IsRuled l) where
       let rest = lanes_are placed frame all ss plans are.1 in
       cc
 
-  -- and those of all services
+  -- and the blocks of all services
   blocks_below : (block : ℕ → List ℕ) → ((service : ℕ) → share_of l service ≡ None → block service ≡ []) → (n : ℕ)
       → flat_map block (shared_below l (suc n)) ≡ flat_map block (shared_below l n) ++ block n
   blocks_below block none n =

@@ -187,7 +187,7 @@ module _ (l : Listing) (formed : IsFormed l) (ruled : IsRuled l) where
       let unshared_first = unshared 0 (λ least most. omega arith) in
       rw (unshared_first, none) tt
 
-  -- the lane that is placed is that of the list
+  -- the lane that is placed is the list's
   pub one_planned : (service share : ℕ) (rate : Rate) (cues : List Cue) (result : Result PlannedService PlanFault) → rate ≡ l.rate → cues ≡ l.cues
       → share_of l service ≡ Some share
       → IfOk result (IsServicePlan service share (service_captions rate service cues) (service_chunks rate service cues)) → IfOk result (IsServicePlanned l service)

@@ -27,7 +27,7 @@ use Rattle.lanes.specs.Chunks.{ServiceChunk}
 use Rattle.frame_scheduler.specs.Blocks.{service_block}
 use Rattle.frame_scheduler.specs.SlotLists.{slot_cues}
 
--- the slots in which the units of each channel begin, and the frames in which those of each service stand
+-- the slots in which the units of each channel begin, and the frames in which each service's stand
 abbrev pub Placement : Type 0
 Placement = Lane → List ℕ
 
@@ -53,7 +53,7 @@ IsLanePlaced list (Channel channel) slots =
     (channel_chunks channel (slot_cues list channel)) slots
 IsLanePlaced list (Service service) frames = IsEarliest (service_lane_of list service) (chunks_in list service) frames
 
--- so do those of each lane of a list
+-- so do the units of each lane of a list
 abbrev pub IsListPlaced : Listing → Placement → Type 0
 IsListPlaced list placed = (on : Lane) → IsLanePlaced list on (placed on)
 
@@ -66,7 +66,7 @@ LaneHasRoom list (Service service) cue =
     room.HasRoom (service_lane_of list service) (λ chunk. chunk.cue) (chunks_in list service) cue
 
 -- the cue of this number is the first without a placement: its lane's units up to it have none, and up to each earlier cue
--- those of every lane have one
+-- every lane's have one
 pub record IsFirstWithoutRoom (list : Listing) (cue : ℕ) : Type 0 where
   pub none : (on : Lane) × (LaneHasRoom list on cue → ⊥)
   pub first : (earlier : ℕ) → earlier < cue → (on : Lane) → LaneHasRoom list on earlier

@@ -18,7 +18,7 @@ shared_below list (suc n) = shared_below list n ++ (if is_some (share_of list n)
 abbrev pub IsServicePlanned : Listing → ℕ → PlannedService → Type 0
 IsServicePlanned list service = IsServicePlan service (share_in list service) (captions_in list service) (chunks_in list service)
 
--- the lanes are those of these services
+-- the lanes are these services' lanes
 abbrev pub AreServicesPlanned : Listing → List ℕ → List PlannedService → Type 0
 AreServicesPlanned list [] [] = ⊤
 AreServicesPlanned list [] (planned ∷ plans) = ⊥

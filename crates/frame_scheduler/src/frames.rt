@@ -81,7 +81,7 @@ pub struct Plan {
 }
 
 impl Plan {
-    /// A plan of the lanes of field 1 and field 2 and of those of services, of this many frames at a rate.
+    /// A plan of the lanes of field 1 and field 2 and of services, of this many frames at a rate.
     pub fn new(
         one: PlacedField,
         two: PlacedField,

@@ -1,5 +1,5 @@
-//! Where the units of each cue stand: the earliest placement in each field's lane and in that of each service with a share, or
-//! the first cue without room; and the pairs and service blocks of each frame, in order.
+//! Where the units of each cue stand: the earliest placement in each field's lane and in each lane of a service with a share,
+//! or the first cue without room. And the pairs and service blocks of each frame, in order.
 #![tactic(auto)]
 
 pub use crate::frames::{FrameBytes, Frames, Plan};

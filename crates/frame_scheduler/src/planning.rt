@@ -27,7 +27,7 @@ use line21_codes::Chan;
 use std::alloc::Global;
 
 /// Places the units of a cue list that keeps the rules: each in the first slot or frame that its cue, the units before it in its
-/// lane and the lane's events allow. NoRoom has the first cue whose units, with those of its lane before it, have no
+/// lane and the lane's events allow. NoRoom has the first cue whose units, with the earlier units of its lane, have no
 /// placement at all.
 pub fn plan(alloc: Global, list: &CueList) -> Result<Plan, PlanFault>
     requires { IsRuled list.now }
@@ -126,7 +126,7 @@ fn beside(
     }
 }
 
-/// The fault of one lane, beside that of another, if it has one.
+/// The fault of one lane, beside another's, if it has one.
 pub fn fault_beside(one: PlanFault, two: Option<PlanFault>) -> PlanFault
     ensures { result ≡ fault_beside one two }
 {
@@ -136,7 +136,7 @@ pub fn fault_beside(one: PlanFault, two: Option<PlanFault>) -> PlanFault
     }
 }
 
-/// Of the faults of two lanes, that of the earlier cue; or out of memory, where a lane has that.
+/// Of the faults of two lanes, the earlier cue's; or out of memory, where a lane has that.
 fn earlier_fault(one: PlanFault, two: PlanFault) -> PlanFault
     ensures { result ≡ earlier_fault one two }
 {

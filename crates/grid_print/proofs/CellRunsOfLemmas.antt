@@ -92,7 +92,7 @@ cols_all w P row cells col (suc n) each =
 abbrev pub rows_runs : {C : Type 0} → Writing C → (ℕ → List (Option C)) → ℕ → ℕ → List (Run C)
 rows_runs w cells start count = flat_map (λ row. row_runs w row (cells row)) (range_with_len start count)
 
--- what holds of the runs of each row holds of those of all
+-- what holds of the runs of each row holds of the runs of all
 rows_all : {C : Type 0} (w : Writing C) (P : Run C → Type 0) (cells : ℕ → List (Option C)) (a n : ℕ)
     → ((row : ℕ) → a ≤ row → row < a + n → All P (row_runs w row (cells row))) → All P (rows_runs w cells a n)
 rows_all w P cells a zero each = All-nil P
@@ -241,7 +241,7 @@ row_order : {C : Type 0} (w : Writing C) (row : ℕ) (cells : List (Option C)) �
 unfolding row_runs
 row_order w row cells = cols_order w row cells 0 (length cells)
 
--- and so are those of the rows
+-- and so are the rows' runs
 rows_order : {C : Type 0} (w : Writing C) (cells : ℕ → List (Option C)) (a n : ℕ) → AreInOrder (rows_runs w cells a n)
 rows_order w cells a zero = tt
 rows_order w cells a (suc n) =

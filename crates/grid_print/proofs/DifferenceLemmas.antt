@@ -173,7 +173,7 @@ shown_one one other none =
     same_where_none (shown (window_of one)) (shown (window_of other)) (shown_within one.live one.visible (state_of one) refl one.within)
     (shown_within other.live other.visible (state_of other) refl other.within) none
 
--- what a test tells that is told by what is shown
+-- a test that is false only where the same is shown, and true only where something else is, is `differs`
 pub told_by : (one other : Window) (told : Bool)
     → (told ≡ false → shown (window_of one) ≡ shown (window_of other)) → (told ≡ true → shown (window_of one) ≢ shown (window_of other))
     → told ≡ differs (shown (window_of one)) (shown (window_of other))

@@ -1,4 +1,4 @@
--- The front of a row that is written as its first cell: its characters are those of the cells there, and after it stands no cell
+-- The front of a row that is written as its first cell: its characters are the characters of the cells there, and after it stands no cell
 -- that is written alike.
 use Rattle.std.proofs.Common.{◌≡◌, ℕ, zero, suc, ◌+◌, ◌<◌, ◌++◌, true, false, List, [], ◌∷◌, Option, Some, None, drop, encode_utf8_all, get_or, length, take, refl, sym, ap, ◌∙◌, add_comm, add-one, arith, inl, inr}
 use Rattle.std.proofs.lemmas.Bool.{cases_Bool}
@@ -43,7 +43,7 @@ pub front_done : {C : Type 0} (w : Writing C) (start : Option (List ℕ)) (fault
 front_done w start faults first cells i before done now none holds is =
     written_same start faults _ _ now (ap (λ t. before ++ t) (sym (append-nil done) ∙ ap (λ t. done ++ encode_utf8_all t) (sym none) ∙ is)) holds
 
--- each character of the front is that of the cell there, which is written alike
+-- each character of the front is the character of the cell there, which is written alike
 pub front_cells : {C : Type 0} (w : Writing C) (first : C) (cells : List (Option C)) (k : ℕ) → k < length (front_text w first cells)
     → (cell : C) × (get_or cells k None ≡ Some cell) × (w.alike first cell ≡ true) × (w.ch cell ≡ get_or (front_text w first cells) k 0)
 front_cells w first [] k within = absurd (omega arith)

@@ -46,7 +46,7 @@ nothing_behind f grid behind nil from to none =
     nothing_more (λ row. f (runs_in grid row)) 1 (behind - 1) (16 - behind) (λ k past. ap f (no_runs_in grid k (λ col. none k col (omega arith))) ∙ nil)
     ∙ ap (λ n. flat_map (λ row. f (runs_in grid row)) (range_with_len 1 n)) all
 
--- the runs of a grid are those of its rows
+-- the runs of a grid are its rows' runs
 pub runs_by_rows : (grid : Grid) → runs grid ≡ flat_map (runs_in grid) rows
 unfolding runs
 runs_by_rows grid = refl

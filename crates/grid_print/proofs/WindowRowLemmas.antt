@@ -51,7 +51,7 @@ nothing_behind f window behind nil to none =
     nothing_more (λ row. f (runs_in window row)) 0 behind (window.rows - behind) (λ k past. ap f (no_runs_in window k (λ col. none k col (omega arith))) ∙ nil)
     ∙ ap (λ n. flat_map (λ row. f (runs_in window row)) (range_with_len 0 n)) all
 
--- the runs of a window are those of its rows
+-- the runs of a window are its rows' runs
 pub runs_by_rows : (window : ShownWindow) → window_runs window ≡ flat_map (runs_in window) (range_with_len 0 window.rows)
 unfolding window_runs
 runs_by_rows window = refl

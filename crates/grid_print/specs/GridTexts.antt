@@ -65,7 +65,7 @@ screens_differ old new =
     list_any (λ chan. grid_differs (old.grids chan) (new.grids chan)) channels
     || list_any (λ service. service_differs (old.windows service) (new.windows service)) all_services
 
--- what changes from some screens to those of a frame: nothing where nothing differs; else the frame's line, the grid of each channel
+-- what changes from some screens to a frame's: nothing where nothing differs; else the frame's line, the grid of each channel
 -- whose grid differs, and the windows of each service whose windows differ
 unfoldable pub changes_text : ℕ → Screens → Screens → List ℕ
 changes_text frame old new =

@@ -16,7 +16,7 @@ window_seen (Some window) = shown (window_of window)
 abbrev pub windows_seen : List Window → ℕ → Option ShownWindow
 windows_seen windows id = window_seen (slice_get windows id)
 
--- below a place the windows are seen as these, the others as before, and it is told whether one of those below was seen otherwise
+-- below a place the windows are seen as these, the others as before, and `changed` says whether one of those below was seen otherwise
 pub record KeepsWindows (are : ℕ → Option ShownWindow) (place : ℕ) (was now : ℕ → Option ShownWindow) (changed : Bool) : Type 0 where
   pub seen : (id : ℕ) → id < place → now id ≡ are id
   pub left : (id : ℕ) → place ≤ id → now id ≡ was id

@@ -34,8 +34,8 @@ seen_at services place = seen_in (slice_get services place)
 abbrev pub changed_at : List Kept → ℕ → Bool
 changed_at services place = changed_in (slice_get services place)
 
--- below a place the windows of the services, which are numbered from 1 on, are kept, the others are as they were, and it is told
--- whether those of one below differ from those that were
+-- below a place the windows of the services, which are numbered from 1 on, are kept, and the others are as they were. `changed` says
+-- whether the windows of one below differ from what was kept
 pub record KeepsServices (are : ℕ → ℕ → Option ShownWindow) (place : ℕ) (was now : List Kept) (changed : Bool) : Type 0 where
   pub count : length now ≡ length was
   pub seen : (i id : ℕ) → i < place → id < 8 → seen_at now i id ≡ are (i + 1) id

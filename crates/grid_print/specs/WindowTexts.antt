@@ -63,7 +63,7 @@ colors_text c = text (
 unfoldable pub window_run_line : Run DCell → List ℕ
 window_run_line run = text (decimal run.row ∷ all_spaced (run.col ∷ []) ∷ pen_attributes_text run.first.pen ∷ colors_text run.first.colors ∷ encode_utf8_all run.text ∷ codes "\n" ∷ [])
 
--- the text of a window: its line, and those of its runs
+-- the text of a window: its line, and its runs' lines
 unfoldable pub window_text : ℕ → ShownWindow → List ℕ
 window_text id w = window_line id w ++ flat_map window_run_line (window_runs w)
 

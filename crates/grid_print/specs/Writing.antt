@@ -17,7 +17,7 @@ pub record Writing (C : Type 0) : Type 0 where
 abbrev pub in_styles : Writing Cell
 in_styles = record { alike = λ a b. same_style a.style b.style; ch = λ cell. cell.ch }
 
--- those of a window with the same attributes of the pen, in the same colours (CTA-708-E, pens)
+-- a window's cells with the same attributes of the pen, in the same colours (CTA-708-E, pens)
 abbrev pub same_rgb : Rgb → Rgb → Bool
 same_rgb a b = a.r == b.r && (a.g == b.g && a.b == b.b)
 

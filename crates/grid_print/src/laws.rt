@@ -7,7 +7,7 @@ ghost use Rattle.grid_print.specs.Writing.{in_styles};
 ghost use Rattle.grid_print.specs.Runs.{places, runs};
 
 /// The runs of a grid are the longest stretches of neighbouring cells of one row with one style, in which they are written alike
-/// (`crate::cell_laws`): each is one, each cell is in one, and they stand by row, then column.
+/// (`crate::cell_laws`). Each is one, each cell is in one, and they stand by row, then column.
 pub fn runs_are_the_longest_stretches()
     ensures { (grid : Grid) → AreRunsOf in_styles (places grid) (runs grid) }
 {}

@@ -65,8 +65,8 @@ impl Shown {
         })
     }
 
-    /// Writes the text of what changed from the screens that were shown last, which are those before the last frame, to those of this
-    /// frame, of whatever shows them, which is empty where nothing changed; these screens are then the ones that were shown last. Where
+    /// Writes the text of what changed from the screens that were shown last, which are the ones before the last frame, to this frame's,
+    /// of whatever shows them. It is empty where nothing changed; this frame's screens are then the ones that were shown last. Where
     /// the frame didn't touch the services, what is seen of them isn't compared.
     pub fn write_changes_of<G: Grids + Touched, O: Sink>(
         &mut self,
@@ -91,7 +91,7 @@ impl Shown {
         self.write_screens(r, frame, r.is_touched(), text, out)
     }
 
-    // Writes the text of what changed from the screens that were shown last to those of a frame, and keeps them. Where `touched` says no,
+    // Writes the text of what changed from the screens that were shown last to a frame's, and keeps them. Where `touched` says no,
     // what is seen of the services is what was shown last, and isn't compared.
     fn write_screens<G: Grids, O: Sink>(
         &mut self,
@@ -164,7 +164,7 @@ impl Shown {
         self.cc4.copy_from(r.displayed(Chan::Cc4));
     }
 
-    // Keeps what is seen of all services, and says whether that of one differs from what was kept; not so where nothing touched them.
+    // Keeps what is seen of all services, and says whether one's differs from what was kept; not so where nothing touched them.
     fn keep_services<G: Grids>(&mut self, r: &G, touched: bool) -> bool
         ensures some { (seen : ℕ → ℕ → Option ShownWindow) → G.shows r.now seen
             → (touched ≡ false → HaveSameWindows (last_shown self.old).windows seen)
@@ -183,8 +183,8 @@ impl Shown {
         touched && keep_services(&mut self.services, r)
     }
 
-    // Writes the line of a frame, the grid of each channel whose grid differs from the one that was shown last, which is kept, and the
-    // text of each service whose windows changed, if one did.
+    // Writes the line of a frame, and the grid of each channel whose grid differs from the one that was shown last, which is kept.
+    // Then it writes the text of each service whose windows changed, if one did.
     fn write_differing<G: Grids, O: Sink>(
         &mut self,
         r: &G,
@@ -249,7 +249,7 @@ impl Shown {
         write_channel(&mut self.cc4, differing.cc4, Chan::Cc4, r, text, out);
     }
 
-    /// Puts the text of what changed from the screens that were shown last to those of a frame, of whatever shows them, which is
+    /// Puts the text of what changed from the screens that were shown last to a frame's, of whatever shows them, which is
     /// empty where nothing changed. These screens are then the ones that were shown last. Failed comes only where the sink's
     /// count of faults rose, and then a front of the text was put.
     pub fn put_changes_of<G: Grids, O: Sink>(&mut self, r: &G, frame: u64, out: &mut O) -> Put
@@ -266,7 +266,7 @@ impl Shown {
         text.finish(out)
     }
 
-    /// Puts the text of what changed from the screens that were shown last to those of a receiver at a frame, which is empty where
+    /// Puts the text of what changed from the screens that were shown last to a receiver's at a frame, which is empty where
     /// nothing changed. These screens are then the ones that were shown last. Failed comes only where the sink's count of faults
     /// rose, and then a front of the text was put.
     pub fn put_changes<O: Sink>(&mut self, r: &Receiver, frame: u32, out: &mut O) -> Put
@@ -280,9 +280,9 @@ impl Shown {
         self.put_changes_of(r, u64::from(frame), out)
     }
 
-    /// Writes the text of what changed from the screens that were shown last, which are those before the last frame, to those of a
-    /// receiver at this frame, which is empty where nothing changed; these screens are then the ones that were shown last. Where the
-    /// frame didn't touch the services, what is seen of them isn't compared.
+    /// Writes the text of what changed from the screens that were shown last, which are the ones before the last frame, to a
+    /// receiver's at this frame. It is empty where nothing changed; the receiver's screens are then the ones that were shown last.
+    /// Where the frame didn't touch the services, what is seen of them isn't compared.
     pub fn write_changes<O: Sink>(
         &mut self,
         r: &Receiver,
@@ -350,7 +350,7 @@ fn write_channel<G: Grids, O: Sink>(
     }
 }
 
-// Keeps what is seen of all services, and says whether that of one differs from what was kept.
+// Keeps what is seen of all services, and says whether one's differs from what was kept.
 fn keep_services<G: Grids>(services: &mut [Kept], r: &G) -> bool
     requires { length services.old ≡ 63 }
     ensures { (seen : ℕ → ℕ → Option ShownWindow) → G.shows r.now seen

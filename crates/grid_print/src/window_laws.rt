@@ -11,7 +11,7 @@ ghost use Rattle.grid_print.specs.WindowRuns.{places, window_runs};
 ghost use Rattle.grid_print.specs.WindowTexts.{service_text};
 
 /// The runs of a window are the longest stretches of neighbouring cells of one row with one pen and the same colours, in which they
-/// are written alike (`crate::cell_laws`): each is one, each cell is in one, and they stand by row, then column.
+/// are written alike (`crate::cell_laws`). Each is one, each cell is in one, and they stand by row, then column.
 pub fn runs_are_the_longest_stretches()
     ensures { (window : ShownWindow) → AreRunsOf in_pens (places window) (window_runs window) }
 {}

@@ -9,7 +9,7 @@ use Rattle.hex_digits.specs.HexDigits.{hex_value}
 abbrev value_or_none : ℕ → ℕ
 value_or_none byte = unwrap_or (hex_value byte) 255
 
--- that of each byte
+-- the value of each byte
 abbrev pub values : List ℕ
 values = map value_or_none (range_with_len 0 256)
 

@@ -1,4 +1,4 @@
-//! Hex digits: the values of those of either case, and those that are written.
+//! Hex digits: the values of digits in either case, and the digits that are written.
 #![tactic(auto)]
 
 ghost use Rattle.std.specs.Prelude.{◌≡◌, ◌<◌, IfSome};
@@ -9,7 +9,7 @@ pub mod laws;
 // In VALUES, for a byte that is no hex digit.
 const NONE: u8 = 0xFF;
 
-// The value of each byte as a hex digit, 16 bytes to a row; those of a to f are in lower case too.
+// The value of each byte as a hex digit, 16 bytes to a row; the values of a to f are written in lower case too.
 const VALUES: [u8; 256] = [
     NONE, NONE, NONE, NONE, NONE, NONE, NONE, NONE, NONE, NONE, NONE, NONE, NONE, NONE, NONE, NONE,
     NONE, NONE, NONE, NONE, NONE, NONE, NONE, NONE, NONE, NONE, NONE, NONE, NONE, NONE, NONE, NONE,

@@ -46,7 +46,7 @@ captions_kinds list frame =
     frame_kinds list.rate (padded list frame) (channel_packet_of (padded list) frame)
     (packet_kinds (packets_before (padded list) frame) (padded list frame).blocks.items)
 
--- so they are those of its packet
+-- so they are its packet's
 packet_captions : (list : Framing) (frame : ℕ) → packet_triplets (packet_at list frame) ≡ captions_of list frame
 packet_captions list frame = append-nil _ ∙ cc_data_section-triplets (captions_of list frame) (captions_kinds list frame)
 

@@ -56,7 +56,7 @@ list_of : (text : List ℕ) (later : Option (List ℕ)) (before now : ℕ) (prog
     → ReadsInput IsPlacedAs IsRefused (Some text) later before now (Ok read.2.made)
 list_of text later before now programme read = (read.0, read.1, read.2.accepted)
 
--- the words stopped the run, where nothing is told of the side file
+-- the words stopped the run, where nothing is known of the side file
 untold_stopped : (later : Option (List ℕ)) (before now : ℕ) (old new : Ends) (why : Stop Halt) → now ≡ before
     → CountsBy old.read_faults new.read_faults old.write_faults new.write_faults (Err why)
     → Realises InsertVerdict (side_ends None before) (side_ends later now) old new (stop_status halt_status why)

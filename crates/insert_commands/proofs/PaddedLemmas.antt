@@ -45,7 +45,7 @@ by_end list P programme silent frame = at (nat_lt frame list.count) refl
     at true is = rw is (programme frame (grind (arith, nat_tests)))
     at false is = rw is (silent frame)
 
--- the packets of the frames below the end are those of the programme
+-- the packets of the frames below the end are the programme's
 pub packets_below : (list : Framing) (frame : ℕ) → frame ≤ list.count → packets_before (padded list) frame ≡ packets_before list.columns frame
 packets_below list zero most = refl
 packets_below list (suc frame) most =

@@ -42,7 +42,7 @@ use Rattle.insert_commands.specs.declared.inserting.Halt.{Halt}
 use Rattle.insert_commands.specs.declared.inserting.Inserting.{Inserting}
 use Rattle.words_reading.specs.declared.packets.Packets.{Packets}
 
--- a rate is told by its code
+-- rates with the same code are the same
 pub same_rate : (r s : Rate) → rate_code r ≡ rate_code s → r ≡ s
 same_rate r s same = cc (rate_of-code r, rate_of-code s, ap rate_of same)
 

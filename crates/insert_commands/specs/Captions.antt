@@ -1,5 +1,5 @@
 -- Believed: the program's answer stands on these definitions.
--- The captions of a programme, frame by frame: those that it carries, and from its end on those of a frame without captions.
+-- The captions of a programme, frame by frame: what it carries, and from its end on what a frame without captions carries.
 use Rattle.std.specs.Prelude.{ℕ, nat_lt, if◌then◌else◌, List}
 use Rattle.cc_data.specs.declared.triplet.Triplet.{Triplet}
 use Rattle.cue_list_commands.specs.Carrying.{channel_packet_of}

@@ -29,11 +29,10 @@ pub data HaveCaptions : (ℕ → List Triplet) → List Frame → List Frame →
   more : (captions : ℕ → List Triplet) (frames news all all_news : List Frame) (old new : Frame) → HaveCaptions captions frames news
       → IsInserted (captions (length frames)) old new → all ≡ frames ++ old ∷ [] → all_news ≡ news ++ new ∷ [] → HaveCaptions captions all all_news
 
--- what holds of a text that was put of these frames with a list's captions: it is a words file of as many frames, each with its
--- captions, which carry a whole caption channel; those of the list have the rates and triplets of the frames that `build` makes of
--- it; no byte fills the buffer of a service, and none gets more than its share in a frame; and a receiver that takes the text and
--- was reset before the first frame shows the list at every frame, after the list's end too: the authored grids wherever the frame is
--- settled, and the authored windows
+-- what holds of a text that was put of these frames with a list's captions. It is a words file of as many frames, each with its captions,
+-- which carry a whole caption channel. The list's frames have the rates and triplets of the frames that `build` makes of it. No byte fills
+-- the buffer of a service, and none gets more than its share in a frame. A receiver that takes the text and was reset before the first
+-- frame shows the list at every frame, after its end too: the authored grids wherever the frame is settled, and the authored windows
 pub record IsSoundInsertion (list : Listing) (placed : Placement) (frames : List Frame) (text : List ℕ) : Type 0 where
   pub news : List Frame
   pub have : HaveCaptions (captions_of (list_framing list placed)) frames news

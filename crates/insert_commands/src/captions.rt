@@ -54,7 +54,7 @@ impl<F: Frames + Drop> Captions<F> {
         self.carrier.triplets(&bytes)
     }
 
-    /// What the next frame carries: that of the programme, or a frame without captions.
+    /// What the next frame carries: the programme's next one, or a frame without captions.
     fn next_frame(&mut self, frame: u32) -> FrameBytes
         ensures gives { (list : Framing) → GivesFramed F.left F.Gives list frame self.old
             → (result ≡ padded list frame) × GivesPlanned F.left F.Gives list frame self.new }

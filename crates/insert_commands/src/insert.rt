@@ -11,12 +11,12 @@ use cue_list_commands::read_programme;
 use std::alloc::Global;
 use words_reading::read_words;
 
-/// Reads a cue list from a side file, judges it, its room too, and then puts a words file with the list's captions in place of its own:
-/// packets that aren't of captions stay as they are. What one take gave is put before the next take.
+/// Reads a cue list from a side file, judges it, its room too, and then puts a words file with the list's captions in place of its own.
+/// Packets that aren't of captions stay as they are. What one take gave is put before the next take.
 ///
-/// Differs comes at the first frame with another rate than the list's; Limit (Packet) at the first whose distribution packet would have
-/// more than 255 bytes; Malformed at the first offending word, or where the file is cut short; and Short where the file has fewer frames
-/// than the list.
+/// Differs comes at the first frame with another rate than the list's, and Limit (Packet) at the first whose distribution packet would
+/// have more than 255 bytes. Malformed comes at the first offending word, or where the file is cut short, and Short where the file has
+/// fewer frames than the list.
 pub fn run_insert<M: Source, S: Source, O: Sink>(
     alloc: Global,
     input: &mut M,

@@ -16,7 +16,7 @@ record StartAt (number : ℕ) (chunks : List FieldChunk) : Type 0 where
   from : AreOfCuesFrom field_chunk_cue number chunks
   order : AreInCueOrder field_chunk_cue chunks
 
--- the units of a cue before those of later ones
+-- the units of a cue before the units of later ones
 cue_start : (number load until : ℕ) (units : List Unit) (rest : List FieldChunk) → StartAt number rest
     → StartAt number (map (λ unit. record { unit = unit; load = load; until = until; cue = number }) units ++ rest)
 cue_start number load until [] rest start = start

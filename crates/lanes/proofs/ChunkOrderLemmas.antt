@@ -25,7 +25,7 @@ record StartAt (number : ℕ) (chunks : List ServiceChunk) : Type 0 where
   from : AreOfCuesFrom service_chunk_cue number chunks
   order : AreInCueOrder service_chunk_cue chunks
 
--- the units of a caption before those of later ones
+-- the units of a caption before the units of later ones
 caption_start : (number : ℕ) (c : Caption) (units : List (List ℕ)) (rest : List ServiceChunk) → StartAt number rest
     → StartAt number (map (chunk_of number c) units ++ rest)
 caption_start number c [] rest start = start

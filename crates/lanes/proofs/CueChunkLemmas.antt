@@ -8,7 +8,7 @@ use Rattle.lanes.specs.ServicePlacing.{AreOfCue, IsOfCue}
 use Rattle.lanes.specs.Chunks.{ServiceChunk}
 use Rattle.lanes.specs.declared.cue_load.CueLoad.{CueLoad}
 
--- one more cue has the units after those of the others
+-- one more cue has its units after the others' units
 pub counted_push : (cues : List CueLoad) (cue : CueLoad) (units more : List (List ℕ)) → AreCounted cues units → cue.count ≡ length more
     → AreCounted (cues ++ cue ∷ []) (units ++ more)
 counted_push [] cue units more counted count =
@@ -32,7 +32,7 @@ chunks_push (first ∷ cues) cue units more counted count =
     ∙ ap (λ l. map (chunk_in first) (take first.count units) ++ l) (chunks_push cues cue (drop first.count units) more counted.1 count)
     ∙ sym (append_assoc (map (chunk_in first) (take first.count units)) (chunks_of cues (drop first.count units)) (map (chunk_in cue) more))
 
--- their bytes are those of the units
+-- their bytes are the units' bytes
 cue_bytes : (cue : CueLoad) (units : List (List ℕ)) → flat_map chunk_bytes (map (chunk_in cue) units) ≡ concat units
 cue_bytes cue [] = refl
 cue_bytes cue (unit ∷ units) = ap (λ l. unit ++ l) (cue_bytes cue units)
@@ -50,7 +50,7 @@ chunks_bytes (cue ∷ cues) units counted =
     ∙ sym (concat_append (take cue.count units) (drop cue.count units))
     ∙ ap concat (take-append-drop cue.count units)
 
--- the units after this many are those of the cues after this many
+-- the units after this many are the units of the cues after this many
 pub record AreLeft (cues : List CueLoad) (units : List (List ℕ)) (chunks : List ServiceChunk) (index from : ℕ) : Type 0 where
   pub are : drop from chunks ≡ chunks_of (drop index cues) (drop from units)
   pub counted : AreCounted (drop index cues) (drop from units)

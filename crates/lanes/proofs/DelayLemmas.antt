@@ -35,7 +35,7 @@ delay_test start c test =
     let some = parts.0 in
     (grind (arith, nat_tests), eqb-true c.starts start parts.1)
 
--- a delay is that of a caption
+-- a delay is some caption's
 pub delay_is_of : (cs : List Caption) (start end : ℕ) → delay_end cs start ≡ Some end → Delayed cs start end
 delay_is_of [] start end is = cc
 delay_is_of (c ∷ cs) start end is = at (is_delayed_at start c) refl (λ rest. delay_is_of cs start end rest)

@@ -1,4 +1,4 @@
--- The units of a frame: those of the cursor's next batch, where that is in the frame.
+-- The units of a frame: the cursor's next batch, where that is in the frame.
 use Rattle.std.proofs.Common.{◌≡◌, ◌∙◌, ℕ, zero, suc, ◌+◌, ◌-◌, ◌<◌, ◌≤◌, ◌==◌, Bool, true, false, if◌then◌else◌, List, [], ◌∷◌, ◌++◌, refl, sym, ap, subst, arith, length, get_or, take, drop, append_assoc, length-append}
 use Rattle.std.specs.Prelude.{replicate}
 use Rattle.std.specs.List.{flat_map, zip}

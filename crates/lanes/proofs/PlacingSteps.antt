@@ -33,7 +33,7 @@ module _ (share : ℕ) (cs : List Caption) (us : List ServiceChunk) (cue : CueLo
   chunk : ServiceChunk
   chunk = chunk_in cue (get_or units s.units [])
 
-  -- the unit's frame isn't before that of the units before it
+  -- the unit's frame isn't before the frame of the units before it
   pub no_earlier : s.frame ≤ t.frame
   no_earlier =
       let before = zip (take s.units us) (batch_frames (ss ++ s ∷ [])) in

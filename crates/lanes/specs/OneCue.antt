@@ -6,7 +6,7 @@ use Rattle.line21_author.specs.declared.event.Event.{Event}
 use Rattle.lanes.specs.FieldLane.{slots_of}
 use Rattle.lanes.specs.declared.chunk.FieldChunk.{FieldChunk}
 
--- the units are those of one cue, the first of all, with its LOAD and SHOW, and the events are at SHOW or later
+-- the units are of one cue, the first of all, with its LOAD and SHOW, and the events are at SHOW or later
 pub record AreOfOneCue (events : List Event) (chunks : List FieldChunk) (load show : ℕ) : Type 0 where
   pub some : 0 < length chunks
   pub cue : All (λ chunk. chunk.cue ≡ 1) chunks

@@ -1,5 +1,5 @@
 -- Believed in part: the program's answer stands on some of these definitions.
--- The bytes that a service is sent in a frame: those of the frame's events, and after them the units that stand in the frame.
+-- The bytes that a service is sent in a frame: the frame's events, and after them the units that stand in the frame.
 use Rattle.std.specs.Prelude.{◌≡◌, ℕ, ◌≤◌, ◌==◌, if◌then◌else◌, List, [], ◌∷◌, ◌++◌, drop, ⊤}
 use Rattle.std.specs.List.{flat_map, zip}
 use Rattle.cc_base.specs.declared.rate.Rate.{Rate}
@@ -27,7 +27,7 @@ abbrev pub AreFramesFrom : ℕ → List ℕ → Type 0
 AreFramesFrom frame [] = ⊤
 AreFramesFrom frame (f ∷ fs) = (frame ≤ f) × AreFramesFrom f fs
 
--- the cursor is after the units that stand before its frame: those of the frames from there on are the ones of its next batches
+-- the cursor is after the units that stand before its frame: the units of the frames from there on are its next batches
 pub record IsLoading (chunks : List ServiceChunk) (batches : List Batch) (cursor : Cursor) : Type 0 where
   -- how many units are passed
   pub passed : ℕ

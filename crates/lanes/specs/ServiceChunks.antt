@@ -1,5 +1,5 @@
 -- Believed in part: the program's answer stands on some of these definitions.
--- The units of a service: those of its window cues in file order, each with what its cue asks of its place (CTA-708-E, 7.1).
+-- The units of a service: its window cues' in file order, each with what its cue asks of its place (CTA-708-E, 7.1).
 use Rattle.std.specs.Prelude.{ℕ, suc, List, [], ◌∷◌, ◌++◌, Option, Some, None, map}
 use Rattle.cc_base.specs.declared.rate.Rate.{Rate}
 use Rattle.cue_lists.specs.declared.cue.Cue.{Cue}
@@ -22,7 +22,7 @@ chunk_of number c unit = record { unit = unit; load = c.load; until = c.starts; 
 abbrev pub service_cue_chunks : Rate → ℕ → ℕ → Cue → List ServiceChunk
 service_cue_chunks rate service number cue = chunks_with number (caption_of rate service cue) (window_cue_units cue)
 
--- the units of the cues of a service, where the first cue has this number: of each cue of the service those of its caption
+-- the units of the cues of a service, where the first cue has this number: for each cue of the service its caption's
 abbrev pub service_chunks_from : Rate → ℕ → ℕ → List Cue → List ServiceChunk
 service_chunks_from rate service number [] = []
 service_chunks_from rate service number (cue ∷ cues) =

@@ -46,7 +46,7 @@ pub record IsWithinRoom (room : ℕ → ℕ) (ends : ℕ → Option ℕ) (placed
   pub frames : (frame : ℕ) → used frame (frame + 1) placed ≤ room frame
   pub delays : (start end : ℕ) → ends start ≡ Some end → used start end placed ≤ most_in_delay
 
--- so do those of every placement
+-- so do the units of every placement
 abbrev pub KeepsRoom : (ℕ → ℕ) → (ℕ → Option ℕ) → Type 0
 KeepsRoom room ends = (chunks : List ServiceChunk) (frames : List ℕ) → IsPlaced (IsAllowedInService room ends) [] chunks frames
     → IsWithinRoom room ends (zip chunks frames)

@@ -36,7 +36,7 @@ pub record IsOfCue (cue : CueLoad) (units : List (List ℕ)) (chunks : List Serv
   pub within : index < length chunks
   pub is : (d : ServiceChunk) → slice_index_or chunks index d ≡ chunk_in cue (slice_index_or units index [])
 
--- the next units are all those of the cue
+-- the next units are all the cue's
 abbrev pub AreOfCue : CueLoad → List (List ℕ) → List ServiceChunk → ℕ → Type 0
 AreOfCue cue units chunks from = (index : ℕ) → from ≤ index → index < from + cue.count → IsOfCue cue units chunks index
 

@@ -17,7 +17,7 @@ frame_room share cs frame = share - length (event_bytes frame cs)
 abbrev pub caption_lane : ℕ → List Caption → List (ServiceChunk × ℕ) → ServiceChunk → ℕ → Type 0
 caption_lane share cs = IsAllowedInService (λ frame. share - length (event_bytes frame cs)) (delay_end cs)
 
--- the budget is that of the delay that is on in the frame, less the units in it
+-- the budget is the one of the delay that is on in the frame, less the units in it
 pub record IsSpent (cs : List Caption) (before : List (ServiceChunk × ℕ)) (frame : ℕ) (budget : Budget) : Type 0 where
   pub delay : delay_end cs budget.start ≡ Some budget.end
   pub from : budget.start ≤ frame
@@ -43,7 +43,7 @@ pub record IsFront (share : ℕ) (cs : List Caption) (before : List (ServiceChun
 abbrev pub IsFirstBehind : List (ServiceChunk × ℕ) → ℕ → Type 0
 IsFirstBehind before frame = (other : ℕ) → AreUpTo other before → frame ≤ other
 
--- the budget in a frame: a new one where a delay starts there, else that of the delay before, until its end
+-- the budget in a frame: a new one where a delay starts there, else the previous delay's, until its end
 abbrev pub budget_in : Option Budget → Option ℕ → ℕ → Option Budget
 budget_in former (Some end) frame = Some (record { start = frame; end = end; left = most_in_delay })
 budget_in None None frame = None

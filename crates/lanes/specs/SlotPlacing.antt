@@ -10,8 +10,8 @@ use Rattle.lanes.specs.Placing.{IsEarliest}
 abbrev pub all_in_frames : {U : Type 0} → (ℕ → ℕ) → List (U × ℕ) → List (U × ℕ)
 all_in_frames {U} frame placed = map (λ (p : U × ℕ). (p.0, frame p.1)) placed
 
--- what a lane of slots allows in frames: the units before stand in frames of slots, and the frame is that of a slot, where the
--- lane allows the unit after them
+-- what a lane of slots allows in frames: the units before stand in frames of slots, and the frame is a slot's, where the lane
+-- allows the unit after them
 abbrev pub allowed_in_frames : {U : Type 0} → (ℕ → ℕ) → (List (U × ℕ) → U → ℕ → Type 0) → List (U × ℕ) → U → ℕ → Type 0
 allowed_in_frames {U} frame allowed before unit f =
     (slots : List (U × ℕ)) × (slot : ℕ) × (before ≡ all_in_frames frame slots) × (f ≡ frame slot) × allowed slots unit slot

@@ -10,7 +10,7 @@ use Rattle.line21_author.specs.declared.unit.Unit.{Unit}
 abbrev pub Timeline : Type 0
 Timeline = ℕ → Option Unit
 
--- what begins at a slot in either timeline; where something does in both, that of the first
+-- what begins at a slot in either timeline; where something does in both, the first one's
 abbrev pub over : Timeline → Timeline → Timeline
 over first second n = option_or (first n) (second n)
 

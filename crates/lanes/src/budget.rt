@@ -1,5 +1,5 @@
 /// The most bytes of loads that may come while a delay lasts. A receiver holds at most 127 bytes: the 128th ends the delay at
-/// once (CTA-708-E, Delay). Two of them are those of the DisplayWindows command that the delay puts off.
+/// once (CTA-708-E, Delay). Two of them are the DisplayWindows command's, which the delay puts off.
 pub const MOST_LOADS: u8 = 125;
 
 // The most bytes that are held and don't end the delay.
@@ -46,8 +46,8 @@ impl Budget {
         true
     }
 
-    /// The number of bytes that the receiver holds when all that was spent has come: those of the DisplayWindows command and
-    /// those that were spent.
+    /// The number of bytes that the receiver holds when all that was spent has come: the DisplayWindows command's and
+    /// the bytes that were spent.
     pub fn held_after(&self) -> u8
         requires { self.now.left ≤ most_held }
         ensures { result ≡ held_behind self.now.left }

@@ -48,7 +48,7 @@ impl Placing {
         }
     }
 
-    /// Places the next units, which are those of a cue.
+    /// Places the next units, which are a cue's.
     pub fn place_cue(
         &mut self,
         cue: CueLoad,

@@ -13,8 +13,8 @@ use crate::Budget;
 use crate::cue_load::CueLoad;
 use dtvcc_author::{Caption, Delay, Latest};
 
-/// How far units of a service have been placed: the frame that the next one is tried in, the bytes that the frame has left for
-/// units, and what is left of the delay that is on in it.
+/// How far units of a service have been placed: the frame that the next one is tried in, and the bytes that the frame has left
+/// for units. With them is what is left of the delay that is on in it.
 #[derive(Clone, Copy)]
 pub(crate) struct Front {
     frame: u32,
@@ -138,7 +138,7 @@ impl Front {
     }
 }
 
-// The budget in a frame: a new one where a delay starts there, else that of the delay before, until its end.
+// The budget in a frame: a new one where a delay starts there, else the previous delay's, until its end.
 fn budget_in(former: Option<Budget>, delay: Option<Delay>, frame: u32) -> Option<Budget>
     ensures { result ≡ budget_in former (option_map (λ delay. delay.ends) delay) frame }
 {

@@ -10,7 +10,7 @@ ghost use Rattle.dtvcc_author.specs.Captions.{service_captions};
 ghost use Rattle.dtvcc_author.specs.Kept.{AreKept};
 ghost use Rattle.lanes.specs.ServiceLane.{KeepsRoom, IsAllowedInService};
 
-/// A service's units with one more, whatever room its frames have and whatever delays there are: there is a placement exactly
+/// A service's units with one more, whatever room its frames have and whatever delays there are. There is a placement exactly
 /// where some frame is allowed for that unit after the earliest placement of the others, which stays as it is.
 pub fn law_of_one_more()
     ensures { (room : ℕ → ℕ) (ends : ℕ → Option ℕ) (chunks : List ServiceChunk) (frames : List ℕ)
@@ -25,8 +25,8 @@ pub fn law_of_first_fit()
     ensures { (room : ℕ → ℕ) (ends : ℕ → Option ℕ) → EarliestIsFirstFit (IsAllowedInService room ends) }
 {}
 
-/// In any placement of a service, the units of one frame have at most its room, and those of the frames of a delay, up to the
-/// one that it ends in, at most 125 bytes.
+/// In any placement of a service, the units of one frame have at most its room. The units of the frames of a delay, up to the
+/// one that it ends in, have at most 125 bytes.
 pub fn law_of_rooms()
     ensures { (room : ℕ → ℕ) (ends : ℕ → Option ℕ) → KeepsRoom room ends }
 {}

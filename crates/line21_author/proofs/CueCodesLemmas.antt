@@ -15,7 +15,7 @@ use Rattle.line21_author.specs.CueCodes.{opening_codes, cue_codes}
 use Rattle.line21_author.proofs.TextCodesLemmas.{AreWritable, AreWritable-append}
 use Rattle.line21_author.proofs.RunCodesLemmas.{run_codes_writable, window_run_writable}
 
--- the codes of runs can be written, where those of each run can
+-- the codes of runs can be written, where each run's can
 runs_writable : (P : Run → Type 0) → ((run : Run) → P run → AreWritable (run_codes run))
     → (runs : List Run) → All P runs → AreWritable (flat_map run_codes runs)
 runs_writable P each [] all = tt

@@ -14,7 +14,7 @@ use Rattle.line21_author.specs.TextCodes.{completed_pair, packed, text_codes}
 abbrev pub IsBasic : ℕ → Type 0
 IsBasic byte = (0x20 ≤ byte) × (byte < 0x80)
 
--- the bytes of a spelling are those of the tables
+-- the bytes of a spelling are in the tables
 abbrev pub IsInTables : Spelling → Type 0
 IsInTables (Basic byte) = IsBasic byte
 IsInTables (Special byte) = (0x30 ≤ byte) × (byte < 0x40)

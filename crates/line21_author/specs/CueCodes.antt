@@ -1,5 +1,5 @@
 -- Believed: the program's answer stands on these definitions.
--- The codes of a line 21 cue: those that set its caption mode, and those of its runs in order
+-- The codes of a line 21 cue: those that set its caption mode, and its runs' in order
 -- (pop-on, paint-on and roll-up captions: CTA-608-E; 47 CFR 79.101).
 use Rattle.std.specs.Prelude.{List, [], ◌∷◌, ◌++◌}
 use Rattle.std.specs.List.{flat_map}

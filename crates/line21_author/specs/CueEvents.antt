@@ -38,6 +38,6 @@ cue_events in_field [] = []
 cue_events in_field (cue ∷ later) =
     show_events in_field cue ++ hide_events in_field cue.hide later ++ cue_events in_field later
 
--- the events of a channel's cues among those of a list
+-- the events of a channel's cues among a list's cues
 abbrev pub channel_events : Chan → List Cue → List Event
 channel_events channel cues = cue_events (field_of_channel channel) (cues_on channel cues)

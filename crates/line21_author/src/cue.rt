@@ -15,9 +15,9 @@ use cue_lists::{Cue, Run};
 use line21_codes::{Code, FieldNumber};
 use std::alloc::{AllocError, Global};
 
-/// The units of a cue, in the order in which its field sends them: the codes that set its caption
-/// mode, and for each run its preamble, tab offset, mid-row code and text (CTA-608-E, 47 CFR 79.101).
-/// A window cue has none. `AllocError` where there is no memory for them.
+/// The units of a cue, in the order in which its field sends them (CTA-608-E, 47 CFR 79.101). They
+/// are the codes that set its caption mode, and for each run its preamble, tab offset, mid-row code
+/// and text. A window cue has none. `AllocError` where there is no memory for them.
 pub fn units(alloc: Global, cue: &Cue) -> Result<Units, AllocError>
     requires { IsCueFormed cue.now }
     ensures units { IfOk result (λ units. units ≡ units_of cue.now) }

@@ -34,9 +34,9 @@ impl Event {
     }
 }
 
-/// The events of a channel's cues, in the order of the cues: the end of caption (EOC) that shows a
-/// pop-on cue, and the erasure of the displayed memory (EDM) at a cue's HIDE, which isn't sent where
-/// the channel's next cue is a pop-on cue that is shown then (CTA-608-E, 47 CFR 79.101). Each is at the
+/// The events of a channel's cues, in the order of the cues (CTA-608-E, 47 CFR 79.101). The end of
+/// caption (EOC) shows a pop-on cue, and the erasure of the displayed memory (EDM) comes at a cue's
+/// HIDE. It isn't sent where the channel's next cue is a pop-on cue that is shown then. Each is at the
 /// first slot of the channel's field that isn't before its SHOW or HIDE. Cues of other channels and
 /// window cues have no part in it. `AllocError` where there is no memory for them.
 pub fn events(

@@ -62,7 +62,7 @@ covered_test : all_below (λ first. all_below (is_covered first) 128) 128 ≡ tr
 unfolding all_below is_covered is_writable is_writable_control is_preamble goes_with is_white is_text
 covered_test = refl
 
--- two bytes are those of a control pair exactly where their code is sent twice
+-- two bytes are a control pair exactly where their code is sent twice
 is_told : ℕ → ℕ → Bool
 is_told first second = beq (are_control first second) (is_doubled (code_at first second))
 
@@ -232,7 +232,7 @@ writable_iff_readable code = (
 pub written_is_read : (f : FieldNumber) (code : Code) (pair : Pair) → pair ≡ pair_of_code f code → IsWritable code → code_of pair ≡ code
 written_is_read f code pair is h = ap code_of is ∙ written-code_of f code h
 
--- the skipped bytes are those of the list
+-- the skipped bytes are the listed ones
 is_as_listed : ℕ → ℕ → Bool
 is_as_listed first second = beq (is_skipped (code_at first second)) (are_control first second && is_listed first second)
 

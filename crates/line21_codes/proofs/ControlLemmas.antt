@@ -1,4 +1,4 @@
--- Each control code that can be written is read back from its bytes, which are those of a control pair
+-- Each control code that can be written is read back from its bytes, which are a control pair
 -- of data channel 1. The tables are tried whole.
 use Rattle.std.proofs.Common.{◌≡◌, ℕ, ◌<◌, ◌≤◌, ◌&&◌, Bool, true, false, nat_lt, nat_le, Option, Some, None, refl, arith}
 use Rattle.std.proofs.lemmas.Bool.Decides.{nat_tests}
@@ -17,7 +17,7 @@ use Rattle.line21_codes.specs.SameStyles.{same_colour, same_style}
 use Rattle.line21_codes.proofs.Same.{same_choice, same_control}
 use Rattle.line21_codes.proofs.WritableLemmas.{is_white, goes_with, is_preamble, IsPreamble-true}
 
--- the bytes are those of a control pair of data channel 1, and are read as the code
+-- the bytes are a control pair of data channel 1, and are read as the code
 unfoldable pub reads_back : FieldNumber → Control → Bool
 reads_back in_field control =
     let bytes = control_bytes in_field control in

@@ -18,7 +18,7 @@ waits_first = record { repeats = λ pair. elim (is_control pair) as (λ b. (b &&
 pair_of : ℕ → ℕ → Pair
 pair_of a b = record { a = a; b = b }
 
--- a pair is that of its bytes
+-- a pair is its bytes' pair
 pair_of-bytes : (p : Pair) → pair_of p.a p.b ≡ p
 unfolding pair_of
 pair_of-bytes p = refl

@@ -1,5 +1,5 @@
 -- Believed in part: the program's answer stands on some of these definitions.
--- The caption channels of line 21: CC1 and CC2 are data channels 1 and 2 of field 1, CC3 and CC4 those of field 2 (CTA-608-E;
+-- The caption channels of line 21: CC1 and CC2 are data channels 1 and 2 of field 1, CC3 and CC4 are field 2's (CTA-608-E;
 -- 47 CFR 79.101).
 use Rattle.std.specs.Prelude.{ℕ, Bool, true, false, List, codes}
 use Rattle.line21_codes.specs.declared.channels.Chan.{Chan}

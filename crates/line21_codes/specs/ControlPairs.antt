@@ -11,7 +11,7 @@ use Rattle.line21_codes.specs.MidRowCodes.{mid_row_at}
 use Rattle.line21_codes.specs.PreambleCodes.{preamble_at}
 use Rattle.line21_codes.specs.TabOffsets.{tab_at}
 
--- the two bytes, without parity, are those of a control pair
+-- the two bytes, without parity, are a control pair
 abbrev pub are_control : ℕ → ℕ → Bool
 are_control first second = nat_le 0x10 first && nat_lt first 0x20 && nat_le 0x20 second
 

@@ -31,8 +31,8 @@ spelling_of ch =
     option_or (basic_spelling ch)
     (option_or (special_spelling ch) (option_or (extended_spelling 0x12 ch) (extended_spelling 0x13 ch)))
 
--- a spelling shows the character: its bytes are those of the character's kind, and the kind's table
--- has the character there
+-- a spelling shows the character: its bytes are of the character's kind, and the kind's table has the character
+-- there
 abbrev pub Shows : ℕ → Spelling → Type 0
 Shows ch (Basic byte) = (0x20 ≤ byte) × (byte < 0x80) × (basic_of byte ≡ Some ch)
 Shows ch (Special byte) = (0x30 ≤ byte) × (byte < 0x40) × (special_of byte ≡ Some ch)

@@ -44,7 +44,7 @@ impl DataChannel {
 }
 
 /// A caption channel of line 21: CC1 and CC2 are the data channels 1 and 2 of field 1, and CC3 and
-/// CC4 those of field 2.
+/// CC4 are field 2's.
 #[derive(Clone, Copy, PartialEq, Eq)]
 pub enum Chan {
     Cc1,

@@ -1,6 +1,6 @@
 //! The codes of line 21 closed captions (CTA-608-E, 47 CFR 79.101): pairs of bytes with odd parity,
-//! the codes that they stand for, how a code is written as a pair, how a character is spelled, and
-//! which control pairs are the repeats that a receiver ignores.
+//! the codes that they stand for, and how a code is written as a pair. Also how a character is
+//! spelled, and which control pairs are the repeats that a receiver ignores.
 #![tactic(auto)]
 
 mod channels;

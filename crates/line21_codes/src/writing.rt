@@ -10,9 +10,9 @@ use crate::codes::{Code, Control};
 use crate::pairs::{Pair, parity};
 use crate::styles::{Colour, Style};
 
-/// The pair with which a field writes a code: miscellaneous codes have first byte 0x14 (0x1C in data
-/// channel 2) in field 1 and 0x15 (0x1D) in field 2, and white without italics is written with an
-/// indent, also at column 0. `read_pair` gives the code back (CTA-608-E, 47 CFR 79.101).
+/// The pair with which a field writes a code (CTA-608-E, 47 CFR 79.101). Miscellaneous codes have
+/// first byte 0x14 (0x1C in data channel 2) in field 1 and 0x15 (0x1D) in field 2. White without
+/// italics is written with an indent, also at column 0. `read_pair` gives the code back.
 #[tactic(auto, unfolding(crate::specs::Writing::pair_of_code))]
 pub fn write_code(code: Code, second_field: bool) -> Pair
     requires { IsWritable code }

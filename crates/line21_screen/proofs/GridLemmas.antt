@@ -16,7 +16,7 @@ pub chosen : (b : Bool) (x y : Option Cell) → (b ≡ true → x ≡ y) → (b 
 chosen true x y inside outside = inside refl
 chosen false x y inside outside = sym (outside refl)
 
--- a grid is that of a list which agrees with it at each place, where it has nothing elsewhere
+-- a grid is the grid of a list which agrees with it at each place, where it has nothing elsewhere
 pub grid_is : (cells : List (Option Cell)) (g : Grid) → ((r c : ℕ) → in_grid r c ≡ true → get_or cells (place r c) None ≡ g r c) → ((r c : ℕ) → in_grid r c ≡ false → g r c ≡ None) → grid_of cells ≡ g
 unfolding grid_of
 grid_is cells g inside outside = fun_ext (λ r. fun_ext (λ c. chosen (in_grid r c) (get_or cells (place r c) None) (g r c) (inside r c) (outside r c)))
@@ -119,7 +119,7 @@ moved_below cells rows old new r c below =
     let without : in_window rows new r ≡ false = grind (arith, nat_tests) in
     rw without refl
 
--- the rows that moved are those of the moved grid
+-- the rows that moved are the moved grid's
 moved_at : (cells : List (Option Cell)) (rows old new r c : ℕ) → new - min (min rows old) new < r → r ≤ new → moved (grid_of cells) rows old new r c ≡ grid_of cells (r + old - new) c
 moved_at cells rows old new r c above below =
     let within : in_window rows new r ≡ true = grind (arith, nat_tests) in
@@ -176,7 +176,7 @@ moved_grid was cells rows old new old_to new_to has =
     (λ r c inside. moved_inside was cells rows old new r c old_to new_to has inside)
     (λ r c outside. moved_outside was rows old new r c old_to new_to outside (in_window rows new r) refl)
 
--- a cell that was read from the list is that of the grid
+-- a cell that was read from the list is the grid's
 pub read_at : (cells : List (Option Cell)) (row col at : ℕ) (cell : Option Cell) → 1 ≤ row → row ≤ 15 → col < 32 → at ≡ (row - 1) * 32 + col → at < length cells → cell ≡ get_or cells at cell → cell ≡ grid_of cells row col
 read_at cells row col at cell from to col_to is within read =
     read ∙ get_or_default cells at cell None within ∙ ap (λ n. get_or cells n None) is ∙ sym (cell_at cells row col from to col_to)

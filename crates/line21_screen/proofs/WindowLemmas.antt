@@ -32,7 +32,7 @@ use Rattle.line21_screen.specs.Scrolling.{IsWindowed, IsInWindow}
 use Rattle.line21_screen.proofs.CodeLemmas.{code_of-possible}
 use Rattle.line21_screen.proofs.MeaningLemmas.{after-acts, after-ignored}
 
--- the rows that moved are those of the window
+-- the rows that moved are the window's
 moved_within : (g : Grid) (rows old new : ℕ) → IsWithin (moved g rows old new) rows new
 moved_within g rows old new r c outside = rw outside refl
 

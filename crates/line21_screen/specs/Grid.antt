@@ -9,7 +9,7 @@ use Rattle.line21_codes.specs.declared.styles.Cell.{Cell}
 abbrev pub Grid : Type 0
 Grid = ℕ → ℕ → Option Cell
 
--- the row and the column are those of a place
+-- the row and the column are a place's
 abbrev pub in_grid : ℕ → ℕ → Bool
 in_grid row col = nat_le 1 row && nat_le row 15 && nat_lt col 32
 

@@ -227,7 +227,7 @@ written_bytes in_field code writable first = (written-a in_field code writable, 
 slots_bytes : (cues : List Cue) (channel : Chan) (placed : List ℕ) → All IsCueFormed cues → (n : ℕ) → AreBytes (channel_slot channel cues placed n)
 slots_bytes cues channel placed formed n = slots_all AreBytes written_bytes cues channel placed formed (omega arith, omega arith) n
 
--- and so are those of the frames that have one
+-- and so are the pairs of the frames that have one
 pub frame_bytes : (list : Listing) (channel : Chan) (placed : List ℕ) → All IsCueFormed list.cues → (n : ℕ) → IfSome (channel_pair list channel placed n) AreBytes
 frame_bytes list channel placed formed n = of_slot (slot_in (cadence_of list.rate channel) n)
   where

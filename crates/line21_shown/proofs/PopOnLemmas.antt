@@ -75,7 +75,7 @@ module _ (in_field : FieldNumber) (t : Timeline) (frames a : ℕ) (hide : Option
   shows : event_at (events_on in_field hide (cue ∷ later)) cue.show ≡ Some (showing_unit in_field)
   shows = at_show in_field hide cue later pop apart
 
-  -- so the units after those of the cue stand after that
+  -- so the units after the cue's stand after that
   free_behind : (f : ℕ) → cue.show ≤ f → IsFree (events_on in_field hide (cue ∷ later)) f → suc cue.show ≤ f
   free_behind f above free =
       ⊎_elim

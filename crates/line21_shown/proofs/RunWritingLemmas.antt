@@ -41,7 +41,7 @@ white_on k o b g p row col underline held below =
     ∙ tabs_at (col % 4 == 0) k o b g row (col - col % 4) (white underline) (col % 4) refl (omega arith)
     ∙ ap (λ n. canvas k o b g (pen_at row n (white underline))) whole
 
--- a style that is upright white is that of its preamble
+-- a style that is upright white is its preamble's
 upright_white : (colour : Colour) (italic underline : Bool) → (is_white colour && not italic) ≡ true
     → white underline ≡ record { colour = colour; italic = italic; underline = underline }
 upright_white White false underline is = refl

@@ -26,7 +26,7 @@ IsRollingFor (kind.Paint channel) base g s = ⊤
 IsRollingFor (kind.Roll channel rows) base g s = IsRolling rows base g s
 IsRollingFor (kind.Win window) base g s = ⊤
 
--- the grid and its HIDE are those of the newest of the earlier cues; before the first cue nothing is shown
+-- the grid and its HIDE are the newest earlier cue's; before the first cue nothing is shown
 abbrev pub IsOfNewest : Option ℕ → Grid → List Cue → ChannelState → Type 0
 IsOfNewest hide g [] s = (hide ≡ None) × (g ≡ empty_grid)
 IsOfNewest hide g (cue ∷ earlier) s = (hide ≡ cue.hide) × (g ≡ shown_from cue.kind cue earlier) × IsRollingFor cue.kind (base_row cue.runs) g s

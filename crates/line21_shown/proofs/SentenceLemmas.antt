@@ -79,7 +79,7 @@ has_cells runs apart = record {
   none = λ row column none. none_shows runs row column none;
 }
 
--- the rows of a chain are those of its cues
+-- the rows of a chain are its cues' rows
 has_rows : (rows base : ℕ) (chain : List Cue) → rows ≤ base → HasRows rows base chain (chain_rows rows base chain)
 has_rows rows base chain room = record {
   each = λ j cue column below at.

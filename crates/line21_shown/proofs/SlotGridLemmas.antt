@@ -167,7 +167,7 @@ back_on_slots c channel cues on =
 back_in_slots : (c : Cadence) (channel : Chan) (cues : List Cue) → reverse (cues_on channel (cues_in_slots c cues)) ≡ cues_in_slots c (reverse (cues_on channel cues))
 back_in_slots c channel cues = ap reverse (cues_on_slots c channel cues) ∙ reverse_in_slots c (cues_on channel cues)
 
--- the authored grid at a frame is that of the cues in slots at the last slot that has come
+-- the authored grid at a frame is the grid of the cues in slots at the last slot that has come
 pub grid_in_slots : (c : Cadence) (f k : ℕ) → slot_from c (suc f) ≡ suc k → (channel : Chan) (cues : List Cue) → All (IsOnSlots c) (cues_on channel cues)
     → authored_grid channel (cues_in_slots c cues) k ≡ authored_grid channel cues f
 grid_in_slots c f k come channel cues on =

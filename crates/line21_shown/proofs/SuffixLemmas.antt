@@ -34,7 +34,7 @@ abbrev pub AreChunks : List Cue → List FieldChunk → Type 0
 AreChunks [] chunks = chunks ≡ []
 AreChunks (cue ∷ later) chunks = (number : ℕ) × (rest : List FieldChunk) × (chunks ≡ field_cue_chunks number cue ++ rest) × AreChunks later rest
 
--- the chunks of a channel are those of its cues
+-- the chunks of a channel are its cues' chunks
 pub chunks_are : (channel : Chan) (number : ℕ) (cues : List Cue) → AreChunks (cues_on channel cues) (channel_chunks_from channel number cues)
 chunks_are channel number [] = refl
 chunks_are channel number (cue ∷ cues) = by_test (is_on channel cue.kind) (chunks_are channel (suc number) cues)

@@ -45,7 +45,7 @@ empty_rows rows = replicate rows (gap 32)
 abbrev pub picture_rows : Picture → List (List (Option Cell))
 picture_rows picture = map (λ row. map (picture row) (range_with_len 0 32)) (range_with_len 1 15)
 
--- what the receiver of field 1 displays at a frame, by the pairs up to that of the frame
+-- what the receiver of field 1 displays at a frame, by the pairs up to the frame's
 abbrev pub displayed_at : List Pair → ℕ → Picture
 displayed_at pairs frame = (after One (reverse (take (frame + 1) pairs))).first.displayed
 
@@ -56,7 +56,7 @@ pub record Example : Type 0 where
   pub frames : ℕ
   pub pairs : List Pair
 
--- the pairs are those of the cues
+-- the pairs are the cues' pairs
 abbrev pub ArePairsSent : Example → Type 0
 ArePairsSent example =
     column (lane_timeline (event_at (channel_events Cc1 example.cues)) (channel_chunks Cc1 example.cues) example.placed) example.frames

@@ -13,7 +13,7 @@ use Rattle.line21_screen.specs.Meaning.{after}
 use Rattle.frame_scheduler.specs.Columns.{Columns, first_pairs}
 use Rattle.frame_scheduler.specs.Planned.{IsListPlaced, Placement, authored_channel, columns_of}
 
--- a field's state at a frame: what its pairs up to that of the frame leave in a receiver that was reset
+-- a field's state at a frame: what its pairs up to the frame's leave in a receiver that was reset
 abbrev pub state_at : FieldNumber → Columns → ℕ → FieldState
 state_at in_field columns frame = after in_field (reverse (first_pairs in_field columns (suc frame)))
 
@@ -22,7 +22,7 @@ pub record ShowsField (state : FieldState) (channel : Chan) (cues : List Cue) (f
   pub first : IsSettled channel cues frame → state.first.displayed ≡ authored_grid channel cues frame
   pub second : state.second.displayed ≡ blank
 
--- the states of the fields at a frame show a list's cues: each field those of its channel, CC1 or CC3, with CC2 or CC4 blank
+-- the states of the fields at a frame show a list's cues: each field its channel's, CC1's or CC3's, with CC2 or CC4 blank
 abbrev pub ShowsList : Listing → (FieldNumber → FieldState) → ℕ → Type 0
 ShowsList list states frame = (in_field : FieldNumber) → ShowsField (states in_field) (authored_channel in_field) list.cues frame
 

@@ -24,14 +24,14 @@ pub fn runs_are_written()
     ensures { RunsAreWritten }
 {}
 
-/// What is authored is what is seen: the pairs of a list that is in form, keeps the rules and is placed
+/// What is authored is what is seen. The pairs of a list that is in form, keeps the rules and is placed
 /// show, at every settled frame, the authored grids of CC1 and CC3, and blank grids on CC2 and CC4.
 pub fn authored_is_seen()
     ensures { AuthoredIsSeen }
 {}
 
-/// The authored grid, sentence by sentence: a pop-on or paint-on cue that is up shows the cells of its runs and
-/// no others, a chain of roll-up cues its rows and no others, and where no cue is up nothing is shown.
+/// The authored grid, sentence by sentence. A pop-on or paint-on cue that is up shows the cells of its runs and
+/// no others, and a chain of roll-up cues its rows and no others. Where no cue is up nothing is shown.
 pub fn authored_grid_is_said()
     ensures { AuthoredGridIsSaid }
 {}
@@ -58,7 +58,7 @@ pub fn rolled_up_rows_are_seen()
     ensures behind { ShowsScreen rolling 25 (empty_rows 15) }
 {}
 
-/// A cue is up from its SHOW on and before its HIDE, at frames 15 and 16 of a cue that is shown at 15 and hidden at 17: a
+/// A cue is up from its SHOW on and before its HIDE, at frames 15 and 16 of a cue that is shown at 15 and hidden at 17. A
 /// definition by which it is up at its HIDE, or isn't at its SHOW, is another one.
 pub fn a_cue_is_up_from_its_show_to_its_hide()
     ensures before { IsUp 14 shown_cue → ⊥ }

@@ -85,7 +85,7 @@ slot_no_more EveryFrame f none = cc
 slot_no_more EvenFrames f none = let other : f % 2 ≢ 0 = grind (arith, nat_tests) in omega arith
 slot_no_more OddFrames f none = let other : f % 2 ≢ 1 = grind (arith, nat_tests) in omega arith
 
--- the slot of a frame that has one is before those of later frames
+-- the slot of a frame that has one is before the slots of later frames
 pub slot_before : (c : Cadence) (f g : ℕ) → has_slot_in c f ≡ true → f < g → slot_from c f < slot_from c g
 slot_before c f g has less =
     let more : slot_from c (suc f) ≡ suc (slot_from c f) = slot_more c f has in
@@ -98,7 +98,7 @@ slots_ended EveryFrame f frames has ended = omega arith
 slots_ended EvenFrames f frames has ended = let even : f % 2 ≡ 0 = eqb-true (f % 2) 0 has in omega arith
 slots_ended OddFrames f frames has ended = let odd : f % 2 ≡ 1 = eqb-true (f % 2) 1 has in omega arith
 
--- the step of a channel's field is that of the rate
+-- the step of a channel's field is the rate's step
 double_step : (in_field : FieldNumber) → 2 ≡ step_of (turn_of in_field)
 double_step Two = refl
 double_step One = refl

@@ -17,7 +17,7 @@ pub enum Cadence {
 }
 
 impl Cadence {
-    /// The cadence of a channel's field: at 59.94 and 60 frames a second field 1 has a slot in each even frame, and field 2 in
+    /// The cadence of a channel's field. At 59.94 and 60 frames a second field 1 has a slot in each even frame, and field 2 in
     /// each odd one; at lower rates each frame has a slot in each field.
     pub fn of(rate: Rate, channel: Chan) -> Cadence
         ensures { result ≡ cadence_of rate channel }

@@ -6,8 +6,8 @@ use std::process::Abort;
 use std::test::Fail;
 use xds_lists::{XdsWriter, parse_xds};
 
-// Of a list, in slots of the frames from 0 on, an o for each that is free and an x for each that isn't: the pairs that are sent, each in
-// hexadecimal digits, a dash for none; and the first packet that isn't ended after them.
+// A list, in slots of the frames from 0 on, an o for each that is free and an x for each that isn't. Then the pairs that are sent, each
+// in hexadecimal digits, a dash for none; and the first packet that isn't ended after them.
 type Case = (&'static str, &'static str, &'static str, Option<u32>);
 
 fn sends(rt: &impl Abort, alloc: Global, case: Case) -> Result<(), Fail> {

@@ -160,7 +160,7 @@ words_parts rate columns frame (suc k) m =
     ∙ sym (append_assoc first (column_bytes rate columns (suc frame) k) (column_bytes rate columns (suc frame + k) m))
     ∙ ap (λ (f : ℕ). (first ++ column_bytes rate columns (suc frame) k) ++ column_bytes rate columns f m) next
 
--- the words of this many frames are the front of those of more
+-- the words of this many frames are the front of the words of more
 words_begin : (rate : Rate) (columns : Columns) (k n : ℕ) → k ≤ n → (rest : List ℕ) × (column_bytes rate columns 0 n ≡ column_bytes rate columns 0 k ++ rest)
 words_begin rate columns k n low =
     let number : n ≡ k + (n - k) = omega arith in

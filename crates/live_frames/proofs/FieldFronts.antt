@@ -118,7 +118,7 @@ chunks_append channel number (cue ∷ cues) more =
           ∙ sym (append_assoc own (channel_chunks_from channel (suc number) cues) (channel_chunks_from channel rest.0 more)),
     )
 
--- those of cues that are loaded from a slot on may stand from it on alone
+-- the units of cues that are loaded from a slot on may stand from it on alone
 units_from : (events : List Event) (last number : ℕ) (cue : Cue) → last ≤ cue.load → (units : List Unit)
     → AreAllowedFrom last (field_lane events) (map (λ unit. record { unit = unit; load = cue.load; until = cue.show; cue = number }) units)
 units_from events last number cue loaded [] = tt

@@ -162,7 +162,7 @@ chunks_append rate service number (cue ∷ cues) more =
     )
 
 module _ (rate : Rate) (service n : ℕ) where
-  -- those of cues that are loaded from a frame on may stand from it on alone
+  -- the units of cues that are loaded from a frame on may stand from it on alone
   module _ (room : ℕ → ℕ) (ends : ℕ → Option ℕ) where
     units_from : (number : ℕ) (c : Caption) → n ≤ c.load → (units : List (List ℕ))
         → AreAllowedFrom n (IsAllowedInService room ends) (map (chunk_of number c) units)

@@ -25,7 +25,7 @@ pub record IsLate (frame next : ℕ) (list : Listing) (cue : Cue) : Type 0 where
   pub late : cue.load < next
   pub next_is : next ≡ frame
 
--- the cue has no room, or takes that of an earlier one
+-- the cue has no room, or takes an earlier one's
 pub record HasNoRoom (frame number : ℕ) (list : Listing) (cue : Cue) : Type 0 where
   pub comes : MayComeAt frame list cue
   pub first : IsFirstWithoutRoom (list_with list cue) number

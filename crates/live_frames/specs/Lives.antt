@@ -14,8 +14,8 @@ use Rattle.live_frames.specs.LeftOut.{IsLeftOut, MayComeAt, list_with}
 use Rattle.live_frames.specs.declared.live_fault.LiveFault.{LiveFault}
 use Rattle.live_frames.specs.declared.live.Live.{Live}
 
--- a builder's own list is this one, which keeps the rules and is placed; its plan and its carrier continue with the frame of this
--- number, and the words that were given are those of all frames before
+-- a builder's own list is this one, which keeps the rules and is placed. Its plan and its carrier continue with the frame of this
+-- number, and the words that were given are all earlier frames'
 pub record IsUnderWay (words : List ℕ) (list own : Listing) (plan : Plan) (carrier : Carrier) (frame : ℕ) : Type 0 where
   pub list_is : own ≡ list
   pub ruled : IsRuled list
@@ -26,16 +26,16 @@ pub record IsUnderWay (words : List ℕ) (list own : Listing) (plan : Plan) (car
   pub at : IsAt list.rate frame (packets_before (columns_of list placed) frame) carrier
   pub words_are : words ≡ first_words list placed frame
 
--- a builder has this list, and the words that it gave are those of the list's first frames
+-- a builder has this list, and the words that it gave are the words of the list's first frames
 abbrev pub IsLive : List ℕ → Listing → Live → Type 0
 IsLive words list live = IsUnderWay words list live.list live.plan live.carrier live.frame
 
--- the cue is taken, which may come at this frame, and the words that were given are those of the list with it; or it is left out for a reason
+-- the cue is taken, which may come at this frame, and the words that were given are the longer list's; or it is left out for a reason
 abbrev pub Adds : List ℕ → ℕ → Listing → Cue → Result (Unit {0}) LiveFault → Live → Type 0
 Adds words frame list cue (Ok _) new = MayComeAt frame list cue × IsLive words (list_with list cue) new
 Adds words frame list cue (Err why) new = IsLeftOut frame list cue why
 
--- the words of the next frame are given, or those of all frames were
+-- the words of the next frame are given, or all frames' were
 abbrev pub GivesFrame : List ℕ → Listing → Bool → List ℕ → Live → Type 0
 GivesFrame given list true words new = IsLive (given ++ words) list new
 GivesFrame given list false words new = IsLive given list new × (words ≡ []) × (new.frame ≡ list.frames)

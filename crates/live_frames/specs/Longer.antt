@@ -1,5 +1,5 @@
 -- Between crates: the program's answer stands on none of these definitions.
--- A cue list with further cues, and what its frames keep of those of the shorter one: no frame knows a cue that is loaded later.
+-- A cue list with further cues, and what its frames keep of the shorter list's: no frame knows a cue that is loaded later.
 use Rattle.std.specs.Prelude.{◌≡◌, ℕ, ◌<◌, ◌≤◌, List, ◌++◌}
 use Rattle.cue_lists.specs.Listing.{IsFormed, Listing}
 use Rattle.cue_lists.specs.Rules.{IsRuled}

@@ -1,4 +1,4 @@
--- The units of a load's captions on a channel have a placement: those of caption k in the slots from 90 k on, and each event stands
+-- The units of a load's captions on a channel have a placement: caption k's in the slots from 90 k on, and each event stands
 -- 60 slots after a multiple of 90.
 use Rattle.std.proofs.Common.{◌≡◌, ℕ, zero, suc, ◌+◌, ◌*◌, ◌<◌, ◌≤◌, ◌%◌, Bool, true, false, List, [], ◌∷◌, ◌++◌, map, Option, Some, None, refl, arith}
 use Rattle.std.specs.Prelude.{IfSome}

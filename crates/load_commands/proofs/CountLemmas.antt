@@ -1,4 +1,4 @@
--- One more frame: its packet and its bytes follow those of the frames before, and its change is counted.
+-- One more frame: its packet and its bytes follow the earlier frames', and its change is counted.
 use Rattle.std.proofs.Common.{◌≡◌, ◌∙◌, ℕ, zero, suc, ◌+◌, if◌then◌else◌, List, [], ◌∷◌, ◌++◌, ap, sym, arith, append_assoc, append-nil}
 use Rattle.cc_base.specs.declared.rate.Rate.{Rate}
 use Rattle.cdp_packets.specs.Packets.{Frame}

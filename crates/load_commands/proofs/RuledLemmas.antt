@@ -15,7 +15,7 @@ use Rattle.cue_lists.specs.Rules.Sentences.{AreInSequence, AreInService, ComesAf
 use Rattle.load_commands.proofs.FormedLemmas.{load_kind, load_run}
 use Rattle.load_commands.specs.LoadList.{load_cue, load_list}
 
--- caption k, as that of a turn
+-- caption k, as the caption of a turn
 abbrev turned : ℕ → ℕ → Cue
 turned k turn = record { load = 90 * k; show = 90 * k + 60; hide = Some (90 * k + 150); kind = load_kind k turn; runs = load_run k turn ∷ [] }
 
@@ -120,7 +120,7 @@ on_slots channel a (suc n) = at (is_on channel (load_cue a).kind) refl (on_slots
         rw is (All-cons (IsOnSlots EveryFrame) (load_cue a) (cues_on channel (captions (a + 1) n)) (record { show = refl; hide = refl }) rest)
     at false is rest = rw is rest
 
--- captions of a service are those of the second turn, and the service is number 1
+-- captions of a service are the second turn's, and the service is number 1
 service_turn : (service k turn : ℕ) → turn < 3 → is_of_service service (load_kind k turn) ≡ true → (turn ≡ 1) × (service ≡ 1)
 service_turn service k zero below is = cc
 service_turn service k (suc zero) below is = (refl, eqb-true service 1 is)

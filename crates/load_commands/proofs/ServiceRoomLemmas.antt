@@ -1,4 +1,4 @@
--- The units of a load's captions in windows have a placement: those of caption k in the frames from 90 k on, and each delay is on from
+-- The units of a load's captions in windows have a placement: caption k's in the frames from 90 k on. Each delay is on from
 -- 30 frames after a multiple of 90 up to 60 after it.
 use Rattle.std.proofs.Common.{◌≡◌, ◌∙◌, ap, ℕ, zero, suc, ◌+◌, ◌*◌, ◌<◌, ◌≤◌, ◌%◌, ◌==◌, Bool, true, false, List, [], ◌∷◌, ◌++◌, length, map, refl, subst, arith, eqb-true}
 use Rattle.std.specs.List.{AllByRecursion, cons_option, range_with_len}

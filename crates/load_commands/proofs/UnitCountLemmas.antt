@@ -30,7 +30,7 @@ use Rattle.load_commands.specs.LoadList.{line21_run, load_text, load_window}
 use Rattle.load_commands.proofs.FormedLemmas.{load_kind, load_run, of_letters}
 use Rattle.load_commands.proofs.LetterLemmas.{is_basic, letter, letter_basic}
 
--- a caption of a load, as that of a turn
+-- a caption of a load, as the caption of a turn
 abbrev pub turned : ℕ → ℕ → Cue
 turned k turn = record { load = 90 * k; show = 90 * k + 60; hide = Some (90 * k + 150); kind = load_kind k turn; runs = load_run k turn ∷ [] }
 

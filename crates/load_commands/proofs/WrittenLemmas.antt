@@ -107,7 +107,7 @@ abbrev turn_records : ℕ → ℕ → List Record
 turn_records k turn =
     cue_records (record { load = 90 * k; show = 90 * k + 60; hide = Some (90 * k + 150); kind = load_kind k turn; runs = load_run k turn ∷ [] })
 
--- that of its run, where its row and column have these numbers, and its pen this word
+-- its run's record, where its row and column have these numbers, and its pen this word
 run_short : (row col k : ℕ) (pen : Field) → row < 100 → col < 100 → length pen ≤ 80
     → IsShortRecord (codes "run" ∷ decimal row ∷ decimal col ∷ pen ∷ encode_utf8_all (load_text k) ∷ [])
 run_short row col k pen few_rows few_cols word = record {

@@ -11,8 +11,8 @@ use Rattle.grid_print.specs.Screens.{received_screens}
 use Rattle.load_commands.specs.LoadList.{load_list}
 use Rattle.load_commands.specs.declared.summary.Summary.{Summary}
 
--- the number of frames at which the screens differ from those of the frame before, of frames that follow others: just at these
--- `decode` prints something; before the first frame of all, every screen is empty and no window is shown
+-- the number of frames at which the screens differ from the previous frame's, of frames that follow others. Just at these `decode`
+-- prints something. Before the first frame of all, every screen is empty and no window is shown
 abbrev pub change_count : List Frame → List Frame → ℕ
 change_count before [] = 0
 change_count before (frame ∷ frames) =

@@ -140,7 +140,7 @@ fn load_text(alloc: Global, number: u32) -> Result<Text, AllocError>
     Ok(Text::from_vec(letters))
 }
 
-/// The capital letter of a number, as they follow one another for ever: A is that of 0, and of 26.
+/// The capital letter of a number, as they follow one another for ever: A is the letter of 0, and of 26.
 fn letter(number: u32) -> char
     ensures { result ≡ 65 + number % 26 }
 {

@@ -15,7 +15,7 @@ use cue_lists::print;
 use std::alloc::{AllocError, Global};
 
 /// Makes the list of this many captions, 1 to 10,000, writes it, reads it as any other list, plans it, carries each of its frames,
-/// and feeds their words to a receiver. Puts the number of captions, that of frames, the bytes of words that were fed, and the
+/// and feeds their words to a receiver. Puts the numbers of captions and of frames, the bytes of words that were fed, and the
 /// frames that `decode` would print, a line each.
 ///
 /// Memory comes before anything is put. There is no other refusal: the list is accepted, whatever the number.

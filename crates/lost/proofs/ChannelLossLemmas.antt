@@ -76,7 +76,7 @@ first_more in_field columns a (suc k) n is =
     ∙ ap (λ (pairs : List Pair). pairs ++ option_to_list (pair_in in_field (columns (a + k)))) (first_more in_field columns a k (a + k) refl)
     ∙ append_assoc (first_pairs in_field columns a) (pairs_between in_field columns a k) (option_to_list (pair_in in_field (columns (a + k))))
 
--- the pairs of frames are those of the slots in them
+-- the pairs of frames are the slots in them
 pairs_are : (in_field : FieldNumber) (columns : Columns) (c : Cadence) (t : Timeline)
     → ((n : ℕ) → first_pairs in_field columns n ≡ column t (slot_from c n))
     → (a count k : ℕ) → slot_from c a + k ≡ slot_from c (a + count)

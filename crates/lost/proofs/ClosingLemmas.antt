@@ -81,7 +81,7 @@ some_codes (run ∷ runs) formed some =
     let b = run_begins run.pen run (All-head IsLine21Run run runs formed).pen in
     (_, b.rest ++ flat_map run_codes runs, ap (λ (codes : List Code). codes ++ flat_map run_codes runs) b.is)
 
--- those of a cue that isn't pop-on
+-- the codes of a cue that isn't pop-on
 plain_long : (k : Kind) (runs : List Run) → is_pop k ≡ false → is_line21 k ≡ true → All IsLine21Run runs → 1 ≤ length runs
     → IsLong (opening_codes k ++ flat_map run_codes runs)
 plain_long (kind.Pop channel) runs plain line21 formed some = cc

@@ -21,7 +21,7 @@ packets_are rate columns since (suc count) =
     ap (λ (l : List Frame). packet_of rate columns since ∷ l)
     (ap (λ (n : ℕ). map (packet_of rate columns) (range_with_len n count)) next ∙ packets_are rate columns (suc since) count)
 
--- the counter of the next frame goes on, and that of a later one doesn't
+-- the counter of the next frame goes on, and a later frame's doesn't
 counter_next : (k n : ℕ) → n ≡ k + 1 → (n % 65536 == (k % 65536 + 1) % 65536) ≡ true
 counter_next k n is = grind (arith, nat_tests)
 

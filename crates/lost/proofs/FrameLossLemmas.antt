@@ -55,7 +55,7 @@ module _ (list : Listing) (placed : Placement) (formed : IsFormed list) (ruled :
   abbrev packets : List Frame
   packets = delivered_packets list placed came
 
-  -- the pairs of the frames that are heard are those of the list
+  -- the pairs of the frames that are heard are the list's
   pairs_heard : (in_field : FieldNumber) (since count : ℕ) → heard_of packets ≡ column_packets list.rate columns since count
       → map concealed (received_pairs in_field (heard_of packets)) ≡ pairs_between in_field columns since count
   pairs_heard in_field since count heard =

@@ -65,7 +65,7 @@ null_plain : IsPlain null_pair
 unfolding ones
 null_plain = refl
 
--- so do those of a placed list
+-- so do a placed list's pairs
 module _ (list : Listing) (placed : Placement) (formed : IsFormed list) where
   pairs_plain : (channel : Chan) (slots : List ℕ) (frame : ℕ)
       → map concealed (option_to_list (channel_pair list channel slots frame)) ≡ option_to_list (channel_pair list channel slots frame)

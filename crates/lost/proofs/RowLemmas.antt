@@ -1,4 +1,4 @@
--- Roll-up captions that are written onto whatever a receiver shows: their lowest rows are those of the cues that were written, and after as many
+-- Roll-up captions that are written onto whatever a receiver shows: their lowest rows are the written cues' rows. After as many
 -- cues as the window has rows they are all of them (CTA-608-E, roll-up captions; 47 CFR 79.101).
 use Rattle.std.proofs.Common.{◌≡◌, ℕ, suc, ◌+◌, ◌-◌, ◌<◌, ◌≤◌, ◌==◌, ◌&&◌, max, nat_le, nat_lt, Bool, true, false, if◌then◌else◌, None, List, [], ◌∷◌, ◌++◌, All, length, refl, sym, ap, ◌∙◌, subst, arith}
 use Rattle.std.specs.List.{flat_map}
@@ -156,11 +156,11 @@ roll_resumed channel rows cue s kind is_rolled formed several =
     let rolling : IsRolling rows base low own = record { mode = refl; on_base = refl; captions = refl; displayed = refl; within = within } in
     (low, subst (IsRolling rows base (with_runs cue.runs (rolled low rows base))) (sym same) (roll_continued channel rows cue low own kind is_rolled formed several rolling))
 
--- the lowest this many rows of a memory are those of a chain
+-- the lowest this many rows of a memory are a chain's
 abbrev AreLowest : ℕ → ℕ → ℕ → List Cue → Grid → Type 0
 AreLowest count rows base chain g = (row column : ℕ) → row ≤ base → base < row + count → g row column ≡ chain_rows rows base chain row column
 
--- roll-up captions are under way, of which the lowest this many rows are those of a chain
+-- roll-up captions are under way, of which the lowest this many rows are a chain's
 pub record HasRows (count rows base : ℕ) (chain : List Cue) (s : ChannelState) : Type 0 where
   pub shown : Grid
   pub rolling : IsRolling rows base shown s

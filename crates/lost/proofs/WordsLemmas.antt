@@ -106,7 +106,7 @@ module _ (rate : Rate) (columns : Columns) (are : AreBytePairs columns) (blocks 
       joined (packet_of rate columns k ∷ []) (map (packet_of rate columns) came) one (bytes_of came)
       (subst (IsFileOf (packet_of rate columns k ∷ [])) (append-nil one) (columns_file rate columns are blocks roomy k 1)) (came_file came)
 
--- the frames of a placed list are carried, and those of them that came are a words file
+-- the frames of a placed list are carried, and the ones that came are a words file
 module _ (list : Listing) (placed : Placement) (formed : IsFormed list) (ruled : IsRuled list) (is : IsListPlaced list placed) where
   abbrev services : AreServicesPlaced list placed
   services service = is (Service service)

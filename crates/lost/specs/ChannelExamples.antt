@@ -14,7 +14,7 @@ use Rattle.cue_lists.specs.declared.cue.Kind.TheVariants.{Pop, Roll}
 use Rattle.line21_screen.specs.Meaning.{after}
 use Rattle.line21_shown.specs.Examples.{Example, pair, picture_rows, twice}
 
--- what the receiver of field 1 displays at a frame, by the pairs from after a lost frame up to that of the frame
+-- what the receiver of field 1 displays at a frame, by the pairs from after a lost frame up to the frame's
 abbrev pub displayed_behind : List Pair → ℕ → ℕ → Picture
 displayed_behind pairs lost frame = (after One (reverse (drop (lost + 1) (take (frame + 1) pairs)))).first.displayed
 

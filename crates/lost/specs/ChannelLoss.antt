@@ -39,7 +39,7 @@ rows_of (kind.Win window) = 1
 abbrev pub seen_with : Cue → List Cue → List Cue
 seen_with cue earlier = take (rows_of cue.kind) (chain_of cue earlier)
 
--- a cue resynchronises its channel after a lost frame: it stands among the cues of the channel, and each of those of which something is seen
+-- a cue resynchronises its channel after a lost frame. It stands among the cues of the channel, and each cue of which something is seen
 -- with it has its LOAD later, so all that is sent of it comes
 pub record Resynchronises (channel : Chan) (cues : List Cue) (lost : ℕ) (cue : Cue) : Type 0 where
   pub earlier : List Cue

@@ -1,5 +1,5 @@
 -- Between crates: the program's answer stands on none of these definitions.
--- The frames of a placed list that arrive, where a line loses some of them: a loss is told by the counters of distribution packets (SMPTE
+-- The frames of a placed list that arrive, where a line loses some of them: a loss is seen by the counters of distribution packets (SMPTE
 -- ST 334-2, cdp_hdr_sequence_cntr), which count modulo 65,536.
 use Rattle.std.specs.Prelude.{◌≡◌, ⊤, ℕ, suc, ◌+◌, ◌<◌, ◌≤◌, ◌⊎◌, List, [], ◌∷◌, ◌++◌, Contains, map}
 use Rattle.std.specs.List.{AllByRecursion, flat_map, range_with_len}

@@ -6,10 +6,10 @@ ghost use Rattle.line21_shown.specs.Examples.{ArePairsSent, empty_rows, letter_r
 ghost use Rattle.lost.specs.ChannelExamples.{ShowsAgain, ShowsBehind, letter_b, letter_c, two_letters};
 ghost use Rattle.lost.specs.ChannelLoss.{AuthoredIsSeenAgain, Resynchronises, SilentIsBlank};
 
-/// What is authored is seen again after lost frames: a receiver that is reset right after a lost frame, and hears all frames from
-/// there on, shows at every settled frame the authored grids of CC1 and CC3 from the SHOW on of a cue that resynchronises the channel: each
-/// cue of which something is seen with it has its LOAD after the lost frame, of a roll-up cue as many of its chain as it has rows. So it is
-/// whatever the loss cut apart: a doubled code, a load, rows that roll up.
+/// What is authored is seen again after lost frames. Let a receiver be reset right after a lost frame, and hear all frames from there on.
+/// From the SHOW on of a cue that resynchronises the channel it shows at every settled frame the authored grids of CC1 and CC3. A cue does
+/// so if each cue of which something is seen with it has its LOAD after the lost frame, of a roll-up cue as many of its chain as it has
+/// rows. So it is whatever the loss cut apart: a doubled code, a load, rows that roll up.
 pub fn authored_is_seen_again()
     ensures { AuthoredIsSeenAgain }
 {}
@@ -30,8 +30,8 @@ pub fn captions_behind_a_loss_are_seen()
     ensures again { Resynchronises Cc1 two_letters.cues 3 letter_b }
 {}
 
-/// Of a chain of roll-up captions of two rows, A, B and C, frame 1 is lost, worked out by hand: at frame 15 B stands alone, though it continues
-/// A and is authored below it; at frame 23, where C continues B, both are seen as they are authored, as both were loaded after the loss.
+/// Of a chain of roll-up captions of two rows, A, B and C, frame 1 is lost, worked out by hand. At frame 15 B stands alone, though it continues
+/// A and is authored below it. At frame 23, where C continues B, both are seen as they are authored, as both were loaded after the loss.
 pub fn rows_behind_a_loss_are_seen()
     ensures cut { ShowsBehind rolling 1 15 (empty_rows 10 ++ letter_row 66 ∷ empty_rows 4) }
     ensures from { ShowsAgain rolling 1 23

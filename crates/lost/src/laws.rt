@@ -16,11 +16,12 @@ pub fn delivered_are_concealed()
     ensures { DeliveredAreConcealed }
 {}
 
-/// Of a placed list that is in form and keeps the rules, at any rate, let any frames be lost, but fewer than 65,536 in a row: at each
-/// frame that comes a concealing receiver shows the authored grids of CC1 and CC3, where the channel is in step and the frame is settled for
-/// it, blank grids on CC2 and CC4, and in each service that is in step the authored windows. A channel is in step where no frame was lost
-/// before, where it has no cue, or where a cue resynchronises it after the last lost frame and has its SHOW by then; a service where none was
-/// lost before, or each of its cues that isn't hidden by then has its LOAD after the last lost frame. Nothing is promised in between.
+/// Of a placed list that is in form and keeps the rules, at any rate, let any frames be lost, but fewer than 65,536 in a row. At each frame
+/// that comes a concealing receiver shows the authored grids of CC1 and CC3, where the channel is in step and the frame is settled for it. It
+/// shows blank grids on CC2 and CC4, and in each service that is in step the authored windows. A channel is in step where no frame was lost
+/// before, where it has no cue, or where a cue resynchronises it after the last lost frame and has its SHOW by then. A service is in step
+/// where none was lost before, or each of its cues that isn't hidden by then has its LOAD after the last lost frame. Nothing is promised in
+/// between.
 pub fn loss_is_recovered()
     ensures { LossIsRecovered }
 {}
@@ -31,8 +32,8 @@ pub fn concealer_recovers()
     ensures { ConcealerRecovers }
 {}
 
-/// Of the frames of a placed list that came, the first below 65,536, a concealing receiver tells the last by its own number, and that so
-/// many are missing before it as lie between it and the one that came before.
+/// Of the frames of a placed list that came, let the first be below 65,536. A concealing receiver tells the last one's own number, and
+/// as many missing before it as lie between it and the one that came before.
 pub fn frames_are_numbered()
     ensures numbers { FramesAreNumbered }
     ensures missing { MissingAreCounted }

@@ -194,7 +194,7 @@ pub begun : (placed : TimedPackets) (words : List ℕ) (frame : ℕ) (user : Lis
 begun placed words frame user missing made bytes b put =
     begun_at placed words (made_before b.before made) made.words frame user missing bytes _ b.begins b.begins.after put
 
--- the words of the missing frames were added, and those of the packet
+-- the words of the missing frames were added, and the packet's
 pub captions_done : (placed : TimedPackets) (words : List ℕ) (old mid new : Made) (frame : ℕ) (user : List ℕ) (missing : MissingFrames) (bytes : List ℕ) (size : ℕ)
     (start now then : Option (List ℕ)) (held after : List ℕ) → IsMade placed words old → Begun placed words old mid.words frame user missing bytes → mid.frames ≡ old.frames
     → mid.bytes ≡ old.bytes → size ≡ missing.left * frame_size missing.rate + length bytes → Counts mid (missing.left + 1) size new (Ok tt)
@@ -220,7 +220,7 @@ captions_unwritten placed words old mid new frame user missing bytes size start 
       (piece_failed start now then held after bytes (words ++ words_left missing) way failed),
 )
 
--- a put of those of the missing frames failed
+-- a put of the missing frames' words failed
 pub missing_unwritten : (placed : TimedPackets) (words : List ℕ) (old mid new : Made) (frame : ℕ) (user : List ℕ) (missing : MissingFrames) (bytes : List ℕ) (size : ℕ)
     (start then : Option (List ℕ)) (after : List ℕ) → IsMade placed words old → Begun placed words old mid.words frame user missing bytes → mid.frames ≡ old.frames
     → mid.bytes ≡ old.bytes → size ≡ missing.left * frame_size missing.rate + length bytes → Counts mid (missing.left + 1) size new (Ok tt)

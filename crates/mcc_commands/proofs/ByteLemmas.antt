@@ -25,7 +25,7 @@ use Rattle.mcc_commands.specs.Words.{eight_words, flag_words, open_words}
 pub both_bytes : (xs ys : List ℕ) → AreBytes xs → AreBytes ys → AreBytes (xs ++ ys)
 both_bytes xs ys are also = All-append (λ b. b < 256) xs ys are also
 
--- those of an open payload, and of the item that ends with a byte
+-- the bytes of an open payload, and of the item that ends with a byte
 stands_bytes : (text : List ℕ) (front : Open) → Stands text front → AreBytes front.bytes
 stands_bytes text front (at_item items bytes are join bytes_is) =
     subst AreBytes (sym (ap (λ (o : Open). o.bytes) bytes_is ∙ joined_is true [] (concat items) bytes join)) (of_items items text are)

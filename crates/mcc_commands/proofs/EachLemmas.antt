@@ -51,7 +51,7 @@ use Rattle.mcc_commands.proofs.ImportedOffenceLemmas.{file_state, offends_stays,
 use Rattle.mcc_commands.proofs.StandingLemmas.{came_file, packets_of}
 use Rattle.mcc_commands.specs.EveryInput.{EveryInputIsOne, IsOneOfThese}
 
--- a packet's line ended: its words are within the limits with those of the packets before, or a limit is passed with it
+-- a packet's line ended: its words are within the limits with the earlier packets' words, or a limit is passed with it
 pub data Done (front : List ℕ) (placed : TimedPackets) (one : ℕ × Payload) (words : List ℕ) : Type 0 where
   within : (longer : List ℕ) → AreFile (placed ++ one ∷ []) → AreWithinImport (placed ++ one ∷ []) longer → Done front placed one words
   passed : (which : LimitOf) → PassesAtPacket which front words → Done front placed one words

@@ -23,7 +23,7 @@ pub line_at : (count other : Counting) (frame place : ℕ) (payload : Payload) (
 line_at count other frame place payload line same at written =
     subst (λ f. IsWrittenLine other f payload line) at (subst (λ c. IsWrittenLine c frame payload line) same written)
 
--- the bytes of a packet of captions are those of a payload's packet
+-- the bytes of a packet of captions are the bytes of a payload's packet
 pub caption_payload : (packet : AncillaryPacket) (bytes : List ℕ) → IsPacketBytes packet bytes → IsCaption packet → IsPayloadOf (payload_of packet) bytes
 caption_payload packet bytes is caption =
     let payload = packet_is_payload packet bytes (caption_of_bytes packet bytes is caption) is in

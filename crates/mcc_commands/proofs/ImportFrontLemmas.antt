@@ -33,7 +33,7 @@ item_on before s byte (first ∷ item) is reads =
       spelled = words_at s s.placed bytes (first ∷ item) at ∙ (on.spelled ∙ ap (λ (w : List ℕ). w ++ on.rest) (sym (state_at s s.placed bytes at)));
     }
 
--- the words of what was read follow those of what was read before
+-- the words of what was read follow the words of what was read before
 pub words_on : (rest before : List ℕ) (s t : State) → run at_first before ≡ Ok s → run s rest ≡ Ok t → WordsOn (state_words s) (state_words t)
 words_on [] before s t reads goes = on_none (state_words s) (state_words t) (ap (λ (x : State). state_words x) (sym (ok_same s t goes)))
 words_on (byte ∷ rest) before s t reads goes =
@@ -44,7 +44,7 @@ words_on (byte ∷ rest) before s t reads goes =
     on_both (state_words s) (words_with s item) (state_words t) (item_on before s byte item refl reads)
     (subst (λ (x : List ℕ). WordsOn x (state_words t)) step there)
 
--- so do those of an item that was read
+-- so do the words of an item that was read
 pub item_read : (rest before : List ℕ) (s t : State) (byte : ℕ) → run at_first before ≡ Ok s → run s (byte ∷ rest) ≡ Ok t
     → WordsOn (words_with s (item_in s.phase s.payload byte)) (state_words t)
 item_read rest before s t byte reads goes =

@@ -41,7 +41,7 @@ use Rattle.mcc_commands.proofs.ImportStepLemmas.{LineTaken, halted_more, halts_a
 use Rattle.mcc_commands.proofs.TakeLemmas.{lines_by, no_byte_offends, started_words, taken_lines, taken_step}
 use Rattle.mcc_commands.proofs.ImportWordsLemmas.{eight_long, on_none, open_not_yet, whole_words, words_long}
 
--- the words of bytes have two bytes each, and those of the flag
+-- the words of bytes have two bytes each, and the flag's too
 open_size : (bytes : List ℕ) → joined true [] bytes ≡ Ok bytes → 0 < length bytes → length (open_words bytes) ≡ 6 + 2 * length bytes
 open_size [] join some = absurd (omega (arith, some))
 open_size (b ∷ bytes) join some = elim (cases_Bool (is_whole (b ∷ bytes))) [
@@ -206,7 +206,7 @@ line_few bytes words importing more had start fits =
     let all = ap length (started_words had.placed importing.reader (ap is_open start)) in
     omega (arith, came, put, short, counted, all, fits)
 
--- its words are those of its packet
+-- its words are its packet's
 pub line_words : (bytes words line out : List ℕ) (importing : Importing) (ahead : MccReader) (had : HasImported bytes words importing) → importing.reader.phase ≡ phase.Start
     → ReadsLine bytes had.placed line ahead → out ≡ payload_words (packet_in ahead).1
     → state_words (state_of importing.reader had.placed) ++ out ≡ state_words (state_of ahead (had.placed ++ packet_in ahead ∷ []))

@@ -56,7 +56,7 @@ byte_taken bytes words byte old mid new had (reader, made, place, heard) read he
   place_is = place_more bytes byte old.place mid.place new.place had.place_is place place_is;
 }
 
--- that of a packet has
+-- the list with a packet more isn't the list without it
 pub longer_not : (placed : TimedPackets) (one : ℕ × Payload) → placed ++ one ∷ [] ≡ placed → ⊥
 longer_not placed one same = omega (arith, ap length same, length-append placed (one ∷ []))
 

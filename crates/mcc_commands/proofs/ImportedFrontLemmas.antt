@@ -1,4 +1,4 @@
--- The packets of a file that begins with a file: those of that one, and perhaps more.
+-- The packets of a file that begins with a file: that file's, and perhaps more.
 use Rattle.std.proofs.Common.{◌≡◌, ℕ, ◌==◌, Bool, true, false, cond, List, [], ◌∷◌, ◌++◌, append_assoc, append-nil, Some, Ok, refl, ap, sym, ◌∙◌, subst}
 use Rattle.mcc_files.specs.MccFiles.{TimedPackets}
 use Rattle.mcc_files.specs.Reading.{State, at_first, behind_cr, ended_by_cr, ended_by_lf, ends, ends_at_lf, ends_in, ends_payload, in_phase, packet_of, payload_goes, placed_with, run, take_byte, taken, within}
@@ -20,7 +20,7 @@ whole_line phase.Behind bytes = true
 whole_line (phase.End packet) bytes = packet
 whole_line _ bytes = false
 
--- the packets of what was read, with that of such a line
+-- the packets of what was read, with such a line's packet
 abbrev pub given : State → TimedPackets
 given s = placed_with s (whole_line s.phase s.payload.bytes)
 

@@ -262,7 +262,7 @@ one_first bytes one other (inr cut) (inl (inl v)) = absurd (cut.no_word other v)
 one_first bytes one other (inr cut) (inl (inr (c, nothing))) = one_offence bytes one other (inr cut.early) (inl c)
 one_first bytes one other (inr cut) (inr more) = one_offence bytes one other (inr cut.early) (inr more.early)
 
--- the words of what was read of a file are those of its packets
+-- the words of what was read of a file are its packets' words
 pub file_state : (bytes : List ℕ) (t : State) (gives : Bool) → run at_first bytes ≡ Ok t → ends t ≡ Some gives → state_words t ≡ words_as_they_came (placed_with t gives)
 file_state bytes t gives reads may =
     let step = (stepped bytes t (started t gives) 10 reads (lf_step t gives may)).words in

@@ -56,7 +56,7 @@ whole_long bytes p are = omega (arith, ap length are, length-append p.user (chec
 pub whole_few : (bytes : List ℕ) (p : Payload) → bytes ≡ payload_bytes p → length bytes ≤ 259 → length p.user ≤ 255
 whole_few bytes p are few = omega (arith, ap length are, length-append p.user (checksum_byte p ∷ []), few)
 
--- the last words after those of a front
+-- the last words after a front's words
 front_drops : (p : Payload) (front more : List ℕ) → head_of p ≡ front ++ more → drop (6 + 2 * length front) (payload_words p) ≡ eight_words more ++ last_word p
 front_drops p front more spelled =
     let each = eight_long front in
@@ -77,7 +77,7 @@ last_words (b ∷ before) bytes p behind from are spelled not_yet none some =
     ∙ (ap (λ (n : ℕ). front ++ drop n (payload_words p)) size
     ∙ (ap (λ w. front ++ w) (front_drops p (b ∷ before) rest head) ∙ (sym (words_front p (b ∷ before) rest head) ∙ (sym (whole_words p) ∙ ap open_words (sym are)))))
 
--- the words of bytes that aren't whole after those of a front
+-- the words of bytes that aren't whole after a front's words
 pub more_words : (before more : List ℕ) → is_whole before ≡ false → is_whole (before ++ more) ≡ false → 0 < length before
     → open_words before ++ eight_words more ≡ open_words (before ++ more)
 more_words [] more not_yet still some = absurd (omega (arith, some))
@@ -89,7 +89,7 @@ pub first_words : (bytes : List ℕ) → is_whole bytes ≡ false → 0 < length
 first_words [] not_yet some = absurd (omega (arith, some))
 first_words (b ∷ bytes) not_yet some = sym (open_not_yet b bytes not_yet)
 
--- a packet's words are those of what it says
+-- a packet's words are the words of what it says
 pub packet_said : (p : Payload) (did sdid : ℕ) (user out : List ℕ) → did ≡ p.did → sdid ≡ p.sdid → user ≡ p.user → out ≡ packet_bytes did sdid user → out ≡ payload_words p
 packet_said p did sdid user out did_is sdid_is user_is out_is =
     out_is ∙ (ap (λ (d : ℕ). packet_bytes d sdid user) did_is ∙ (ap (λ (s : ℕ). packet_bytes p.did s user) sdid_is ∙ ap (λ (u : List ℕ). packet_bytes p.did p.sdid u) user_is))

@@ -102,7 +102,7 @@ state_few s words made placed hearer fit more same is heard facts few fits =
     let counted = heard.counted in
     omega (arith, came, bytes, short, all, open_size, counted, few, fits)
 
--- the words that are put are those of the item
+-- the words that are put are the item's words
 pub words_put : (s : State) (fit out : List ℕ) (from : ℕ) → is_open s.phase ≡ true → from ≡ length s.payload.bytes
     → open_words (take from (s.payload.bytes ++ fit)) ++ out ≡ open_words (s.payload.bytes ++ fit) → state_words s ++ out ≡ words_with s fit
 words_put s fit out from open_is from_is put =

@@ -51,7 +51,7 @@ pub record HaltsMcc (start : Start) (why : Status) (bytes text : List ℕ) : Typ
   pub at : StopsBehind start why bytes
   pub written : IsWrittenFile start.count (placed start.first at.is_file.file.packets) text
 
--- or the MCC file is that of a whole words file
+-- or the MCC file is a whole words file's
 abbrev pub ExportMccEnd : Start → Status → List ℕ → List ℕ → Type 0
 ExportMccEnd start status.Ok input text = OfFile (λ frames. SaysMcc start input text) input
 ExportMccEnd start _ input text = ⊥

@@ -28,7 +28,7 @@ expected_rate counting.F50 = rate.F50
 expected_rate counting.F60 = rate.F5994
 expected_rate counting.F60Drop = rate.F5994
 
--- they can count frames of this rate: the expected one, or without drop frame that of 1,001 frames to its 1,000
+-- they can count frames of this rate: the expected one, or without drop frame the one of 1,001 frames to its 1,000
 abbrev pub counts_rate : Counting → Rate → Bool
 counts_rate counting.F24 rate.F23976 = true
 counts_rate counting.F24 rate.F24 = true
@@ -52,7 +52,7 @@ pub record HaveOneRate (count : Counting) (frames : List Frame) : Type 0 where
 abbrev pub IsOfBytes : AncillaryPacket → Type 0
 IsOfBytes packet = All (λ word. IsEightBit (word % 256) word) packet.user
 
--- packets that an MCC file carries, of which those of captions bring these frames
+-- packets that an MCC file carries, of which the packets of captions bring these frames
 pub record AreExportedAsMcc (start : Start) (packets : List AncillaryPacket) (frames : List Frame) : Type 0 where
   pub rates : HaveOneRate start.count frames
   pub of_bytes : All IsOfBytes packets
@@ -63,8 +63,8 @@ abbrev pub IsUnlikeFirst : List Frame → Rate → Rate → Type 0
 IsUnlikeFirst [] expected seen = ⊥
 IsUnlikeFirst (first ∷ frames) expected seen = (expected ≡ first.rate) × (seen ≢ first.rate)
 
--- after these frames this rate is expected in place of the one that is seen: the count's, where it can't count the latter, and else that of
--- the first frame
+-- after these frames this rate is expected in place of the one that is seen: the count's, where it can't count the latter, and else
+-- the first frame's
 abbrev pub IsWrongRate : Counting → List Frame → Rate → Rate → Type 0
 IsWrongRate count frames expected seen =
     ((counts_rate count seen ≡ false) × (expected ≡ expected_rate count)) ⊎ ((counts_rate count seen ≡ true) × IsUnlikeFirst frames expected seen)

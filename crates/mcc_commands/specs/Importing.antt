@@ -86,7 +86,7 @@ pub record HasBegun (placed : TimedPackets) (words : List ℕ) (frame : ℕ) (us
   pub bytes_are : made.bytes ≡ length words
   pub begins : BeginsCaptions before frame user made.words missing
 
--- these are the words of the packet of captions with these user bytes that was begun: those of the packet with its counter raised
+-- these are the words of the packet of captions with these user bytes that was begun: the words of the packet with its counter raised
 abbrev pub AreBegunWords : MccWords → List ℕ → List ℕ → Type 0
 AreBegunWords maker user bytes = IfSome maker.before (λ now. (raised : List ℕ) × IsRaised now.raised user raised × (bytes ≡ packet_bytes 0x61 0x01 raised))
 
@@ -234,7 +234,7 @@ PutsRest now before then after held (Err stopped.ReadFault) result = (result ≡
 PutsRest now before then after held (Err stopped.WriteFault) result = (result ≡ Err stopped.WriteFault) × (then ≡ now) × (after ≡ before)
 PutsRest now before then after held read result = PutsHeld now before then after held read result
 
--- a packet's line has ended after those of these packets, and the words with it were heard
+-- a packet's line has ended after these packets' lines, and the words with it were heard
 pub record HasEnded (placed : TimedPackets) (reader : MccReader) (hearer : Hearer) : Type 0 where
   pub file : AreFile placed
   pub heard : HasHeard (words_as_they_came (placed ++ packet_in reader ∷ [])) hearer

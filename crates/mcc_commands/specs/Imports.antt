@@ -1,6 +1,6 @@
 -- Between crates: the program's answer stands on none of these definitions.
--- What an import is of an MCC file: one list of words, in which nothing offends. The words of more packets begin with those of the first
--- ones, and the packets of a file with those of a file that it begins with. Bytes have one first offence.
+-- What an import is of an MCC file: one list of words, in which nothing offends. The words of more packets begin with the first ones'
+-- words, and the packets of a file with the packets of a file that it begins with. Bytes have one first offence.
 use Rattle.std.specs.Prelude.{◌≡◌, ℕ, List, ◌++◌}
 use Rattle.cc_base.specs.declared.refusal.Refusal.{Refusal}
 use Rattle.mcc_files.specs.MccFiles.{IsMccFile, TimedPackets}

@@ -1,7 +1,7 @@
 -- Believed: the program's answer stands on these definitions.
--- At which frame of the day each packet of a words file stands in the MCC file that is written of them: a packet of captions at that of
--- frame 0 and as many more as packets of captions stand before it, and another packet at the frame of the packet of captions before it, or
--- at that of frame 0 where there is none.
+-- At which frame of the day each packet of a words file stands in the MCC file that is written of them. A packet of captions stands as
+-- many frames after the place of frame 0 as packets of captions stand before it. Another packet stands at the frame of the packet of
+-- captions before it, or at the place of frame 0 where there is none.
 use Rattle.std.specs.Prelude.{ℕ, ◌+◌, ◌-◌, if◌then◌else◌, List, [], ◌∷◌}
 use Rattle.anc_words.specs.Packets.{AncillaryPacket}
 use Rattle.mcc_files.specs.MccFiles.{TimedPackets}

@@ -11,7 +11,7 @@ use Rattle.mcc_commands.specs.Imported.{IsMccImport}
 abbrev pub ImportsAreWordsFiles : Type 0
 ImportsAreWordsFiles = (bytes words : List ℕ) → IsMccImport bytes words → (frames : List Frame) × IsFileUnder caption_channel frames words
 
--- its frames are those of the packets of captions in their order, each after as many frames without captions as are missing before it
+-- its frames are the frames of its packets of captions in their order, each after as many frames without captions as are missing before it
 abbrev pub ImportsStandApart : Type 0
 ImportsStandApart = (bytes words : List ℕ) (is : IsMccImport bytes words) (frames : List Frame) → IsFileUnder caption_channel frames words → StandApart is.placed frames
 

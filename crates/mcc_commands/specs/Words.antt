@@ -36,7 +36,7 @@ abbrev pub open_part : Bool → List ℕ → List ℕ
 open_part true bytes = open_words bytes
 open_part false bytes = []
 
--- the words of what was read: those of the packets of the lines that ended, and of the open payload
+-- the words of what was read: of the packets of the lines that ended, and of the open payload
 abbrev pub state_words : State → List ℕ
 state_words s = words_as_they_came s.placed ++ open_part (is_open s.phase) s.payload.bytes
 

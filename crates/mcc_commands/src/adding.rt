@@ -150,7 +150,7 @@ impl Made {
         self.add_words(missing, &words, text, out)
     }
 
-    /// Adds the words of the packet of captions that was begun, after those of the frames that are missing before it.
+    /// Adds the words of the packet of captions that was begun, after the words of the frames that are missing before it.
     fn add_words<O: Sink>(
         &mut self,
         missing: MissingFrames,

@@ -17,10 +17,10 @@ use words_reading::read_words;
 /// Reads a words file, and puts the MCC file of all its packets, whose time codes count so and whose frame 0 has this one, which a frame
 /// of the day must have. Its head is put first, and then what one take gave is judged, and its lines put, before the next take.
 ///
-/// Differs comes at the first packet of captions with a rate that isn't expected: one that time codes of the count can't count, or not that
-/// of the first packet of captions; and at the first other packet with a user word that isn't an 8-bit word. Limit (Day) comes at the first
-/// packet of captions for which the day has no frame; Malformed at the first offending word, or where the file is cut short. Then the lines
-/// of the packets before were put.
+/// Differs comes at the first packet of captions with a rate that isn't expected: one that time codes of the count can't count, or not the
+/// first packet of captions' rate. It comes too at the first other packet with a user word that isn't an 8-bit word. Limit (Day) comes at
+/// the first packet of captions for which the day has no frame; Malformed at the first offending word, or where the file is cut short. Then
+/// the lines of the packets before were put.
 pub fn run_export_mcc<M: Source, O: Sink>(
     alloc: Global,
     count: Counting,

@@ -10,7 +10,7 @@ ghost use Rattle.services_files.specs.CaptionChannel.{caption_channel};
 ghost use Rattle.time_codes.specs.Countings.{day_frames_in};
 ghost use Rattle.words_files.specs.Offences.{IsFileUnder};
 
-/// The law that what is put of exported packets is an MCC file of just these packets, each at its frame.
+/// The law that exported packets are written as an MCC file of just these packets, each at its frame.
 pub fn exported_words_are_an_mcc_file()
     ensures { (start : StartOf) (frames : List Frame) (file text : List ℕ)
         (is_file : IsFileUnder caption_channel frames file)

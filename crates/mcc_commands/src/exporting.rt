@@ -38,7 +38,7 @@ impl Exporting {
         })
     }
 
-    /// Adds the line of a packet that ended, and begins the next packet. Gives how many bytes were read, as many as it is told.
+    /// Adds the line of a packet that ended, and begins the next packet. Gives how many bytes were read, which is `used`.
     fn add<O: Sink>(
         &mut self,
         line: &[u8],

@@ -17,8 +17,8 @@ use words_reading::{Stop, TAKE, WORDS_LIMIT};
 /// frames without captions that are missing between them. What one take gave is judged, and its packets put, before the next take.
 ///
 /// Malformed comes at the first offence of the file or of the words of its packets; then the packets of the lines that ended before were
-/// put. Limit (Frames) comes at a packet of captions with which more than 5,184,000 frames would be put, and Limit (Bytes) at a packet with
-/// which more than 2,147,483,647 bytes would be, and at the byte after as many of the file; then nothing of the packet is put.
+/// put. Limit (Frames) comes at a packet of captions with which more than 5,184,000 frames would be put. Limit (Bytes) comes at a packet
+/// with which more than 2,147,483,647 bytes would be, and at the byte after as many of the file. Then nothing of the packet is put.
 pub fn run_import_mcc<M: Source, O: Sink>(alloc: Global, input: &mut M, out: &mut O) -> Status
     ensures { RealisesLeaving ImportMccVerdict
         (ends (M.left input.old) (M.faults input.old) (O.written out.old) (O.faults out.old))

@@ -22,9 +22,9 @@ pub fn imports_are_one()
     ensures unoffending { NothingOffendsInImports }
 {}
 
-/// What an import puts of a file is a words file over all layers, whose frames are those of its packets of captions in their order, each
-/// after the frames without captions that are missing before it; and where no two of these are at one frame of the day, each stands at its
-/// own, counted from that of the first one.
+/// What an import puts of a file is a words file over all layers. Its frames are the frames of its packets of captions in their order,
+/// each after the frames without captions that are missing before it. Where no two of these are at one frame of the day, each stands at
+/// its own, counted from the first one's.
 pub fn imports_are_words_files()
     ensures file { ImportsAreWordsFiles }
     ensures apart { ImportsStandApart }

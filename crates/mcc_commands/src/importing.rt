@@ -18,8 +18,8 @@ use std::mem;
 use text_output::Gathered;
 use words_reading::Stop;
 
-/// An import on its way: the bytes of the file, line by line where lines of packets stand whole in what is taken at once and else one by
-/// one, their words, and what is made of the packets. All memory that it takes is taken by `new`.
+/// An import on its way: the bytes of the file, their words, and what is made of the packets. Lines of packets that stand whole in what
+/// is taken at once are taken line by line, and all else byte by byte. All memory that it takes is taken by `new`.
 #[derive(Drop)]
 pub struct Importing {
     reader: MccReader,

@@ -25,7 +25,7 @@ fn eight_bit(byte: u8) -> [u8; 2]
     [high, byte]
 }
 
-/// Whether the bytes of a payload are those of a whole packet.
+/// Whether the bytes of a payload are a whole packet's.
 fn are_whole(bytes: &[u8]) -> bool
     ensures { result ≡ is_whole bytes.now }
 {
@@ -99,7 +99,7 @@ pub(crate) fn put_packet(bytes: &[u8], out: &mut ArrayVec<u8, ROOM>)
     write_packet(did, sdid, user, out);
 }
 
-/// The last words of the packet of these bytes, after those of this many bytes, into an empty `out`.
+/// The last words of the packet of these bytes, after the words of this many bytes, into an empty `out`.
 fn add_last(from: usize, bytes: &[u8], out: &mut ArrayVec<u8, ROOM>)
     requires from { from ≤ length bytes.now }
     requires few { length bytes.now ≤ 259 }
@@ -115,8 +115,8 @@ fn add_last(from: usize, bytes: &[u8], out: &mut ArrayVec<u8, ROOM>)
     add(&words[size..], out);
 }
 
-/// The words of bytes of a payload after the first ones, this many, into an empty `out`: with those of the first byte the ancillary data
-/// flag, and of a checksum byte the checksum word (SMPTE ST 291-1).
+/// The words of bytes of a payload after the first ones, this many, into an empty `out`. With the first byte's comes the ancillary data
+/// flag, and of a checksum byte comes the checksum word (SMPTE ST 291-1).
 pub(crate) fn put_words(from: usize, bytes: &[u8], out: &mut ArrayVec<u8, ROOM>)
     requires from { from < length bytes.now }
     requires few { length bytes.now ≤ 259 }

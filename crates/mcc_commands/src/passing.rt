@@ -67,7 +67,7 @@ impl Clock {
         Ok(last)
     }
 
-    /// The frame after that of the packet of captions before, or that of frame 0.
+    /// The frame after the one of the packet of captions before, or the one of frame 0.
     fn next(&self) -> u32
         ensures { IsNext (clock_rate self.now) (clock_last self.now) result }
     {
@@ -78,8 +78,8 @@ impl Clock {
     }
 }
 
-/// The rate that is expected in place of the one that is seen: that of the count, where this can't count the latter, and else that of the
-/// packets of captions before; None where the rate is right.
+/// The rate that is expected in place of the one that is seen; None where the rate is right. It is the count's, where this can't count
+/// the one that is seen, and else the rate of the packets of captions before.
 fn wrong_rate(count: Counting, before: Option<Rate>, seen: Rate) -> Option<Rate>
     ensures { TellsRate count before seen result }
 {
@@ -105,7 +105,7 @@ fn expected_rate(count: Counting) -> Rate
     }
 }
 
-/// Whether they can count frames of this rate: the expected one, or without drop frame that of 1,001 frames to its 1,000.
+/// Whether they can count frames of this rate: the expected one, or without drop frame the one of 1,001 frames to its 1,000.
 fn counts_rate(count: Counting, rate: Rate) -> bool
     ensures { result ≡ counts_rate count rate }
 {

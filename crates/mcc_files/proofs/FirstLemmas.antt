@@ -237,7 +237,7 @@ pub same_payload : (did d sdid s : ℕ) (user u : List ℕ) → did ≡ d → sd
     → payload_at did sdid user ≡ payload_at d s u
 same_payload did d sdid s user u dids sdids users = rw (dids, sdids, users) refl
 
--- bytes are those of one packet
+-- bytes are one packet's bytes
 pub one_packet : (p q : Payload) (c d : ℕ) (x y : List ℕ) → bytes_with p c ++ x ≡ bytes_with q d ++ y → (p ≡ q) × (c ≡ d)
 one_packet p q c d x y same =
     let dids : p.did ≡ q.did = cc in

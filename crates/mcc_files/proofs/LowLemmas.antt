@@ -38,7 +38,7 @@ low_eights (byte ∷ bytes) are =
     let more = low_eights bytes (tail_bytes byte bytes are) in
     cc
 
--- those of a payload's packet, from DID on
+-- the low bytes of a payload's packet, from DID on
 pub low_payload : (payload : Payload) (packet : List ℕ) → IsPayloadOf payload packet
     → map low_of (first_chunks 2 (length (drop 6 packet) / 2) (drop 6 packet)) ≡ payload_bytes payload
 low_payload payload packet is =

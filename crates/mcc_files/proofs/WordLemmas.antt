@@ -13,7 +13,7 @@ use Rattle.mcc_files.specs.PayloadWords.{payload_of, payload_words}
 use Rattle.mcc_files.proofs.CompleteLemmas.{checksum_small, more_bytes, no_bytes}
 use Rattle.mcc_files.proofs.WrittenLemmas.{AreBytes, back_bytes, tail_bytes}
 
--- 8-bit words are those of their bytes
+-- 8-bit words are the words of their own bytes
 pub words_again : (words : List ℕ) → All (λ word. IsEightBit (word % 256) word) words → map eight_bit_word (map (λ word. word % 256) words) ≡ words
 words_again [] are = refl
 words_again (word ∷ words) are =

@@ -23,6 +23,6 @@ abbrev pub TakesByte : List ℕ → ℕ → Counted → Counted → Result (Unit
 TakesByte bytes byte old new (Ok _) = (why_of_byte true bytes byte ≡ None) × AreCounted (bytes ++ byte ∷ []) new
 TakesByte bytes byte old new (Err reason) = (why_of_byte true bytes byte ≡ Some reason) × (new ≡ old)
 
--- the bytes are those of a packet with the right checksum byte
+-- the bytes are a packet with the right checksum byte
 abbrev pub IsPacket : List ℕ → Type 0
 IsPacket bytes = (payload : Payload) × (bytes ≡ payload_bytes payload)

@@ -32,7 +32,7 @@ pub data Line : Type 0 where
 abbrev pub AreWithinLine : List ℕ → Type 0
 AreWithinLine bytes = list_all (λ byte. not (byte == 10) && not (byte == 13)) bytes ≡ true
 
--- any bytes but LF: those of a line that has not ended
+-- any bytes but LF: a line that has not ended
 abbrev pub HaveNoLf : List ℕ → Type 0
 HaveNoLf bytes = list_all (λ byte. not (byte == 10)) bytes ≡ true
 

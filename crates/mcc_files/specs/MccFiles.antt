@@ -1,6 +1,6 @@
 -- Believed: the program's answer stands on these definitions.
 -- Which bytes are an MCC file of which packets at which frames of the day. The time code rate stands once, attributes before the first
--- packet, and packets after the time code rate; no packet's time code is before that of the packet before.
+-- packet, and packets after the time code rate; no packet's time code is before the previous packet's.
 use Rattle.std.specs.Prelude.{◌≡◌, ℕ, ◌≤◌, List, [], ◌∷◌, Ok}
 use Rattle.time_codes.specs.Countings.{frame_in}
 use Rattle.time_codes.specs.declared.counting.Counting.{Counting}

@@ -85,7 +85,7 @@ pub record EndsInItem (bytes : List ℕ) : Type 0 where
 abbrev pub IsUnoffendingMcc : List ℕ → Type 0
 IsUnoffendingMcc bytes = BeginsMccFile bytes ⊎ (EndsInTime bytes ⊎ EndsInItem bytes)
 
--- the bytes end with a whole time code's text, which is refused so: no frame has it, or it is before that of the line before
+-- the bytes end with a whole time code's text, which is refused so: no frame has it, or it is before the previous line's
 pub record EndsTime (bytes : List ℕ) (refusal : Refusal) : Type 0 where
   pub version : Version
   pub count : Counting

@@ -23,8 +23,8 @@ abbrev pub is_whole : List ℕ → Bool
 is_whole (did ∷ sdid ∷ count ∷ rest) = nat_lt count (length rest)
 is_whole _ = false
 
--- why a byte offends after these: it is one too many, or, where sums are judged, it is a checksum byte with other bits than the low
--- eight of the checksum word, which are those of the sum of all bytes before; else only the form of payloads is judged
+-- why a byte offends after these: it is one too many, or, where sums are judged, it is a wrong checksum byte. The right one has the
+-- low eight bits of the sum of all bytes before, as the checksum word has. Else only the form of payloads is judged
 abbrev pub why_of_byte : Bool → List ℕ → ℕ → Option Why
 why_of_byte judging (did ∷ sdid ∷ count ∷ rest) byte =
     if nat_lt (length rest) count then None
@@ -71,7 +71,7 @@ stepped judging (Some high) bytes byte = second_digit judging bytes high (hex_va
 abbrev pub step : Bool → Open → ℕ → Result Open Offence
 step judging front byte = if is_whole front.bytes then no_item else stepped judging front.digit front.bytes byte
 
--- the bytes of the item that ends with a byte, if one does: a letter's, or that of two digits
+-- the bytes of the item that ends with a byte, if one does: a letter's, or two digits'
 abbrev pub brought_by : Option ℕ → Option (List ℕ) → Option ℕ → List ℕ
 brought_by None (Some bytes) digit = bytes
 brought_by None None digit = []

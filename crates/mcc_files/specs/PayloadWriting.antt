@@ -9,7 +9,7 @@ use Rattle.mcc_files.specs.Letters.{letter_bytes}
 abbrev pub written_bytes : ℕ → Option (List ℕ)
 written_bytes letter = if letter == 85 then None else letter_bytes letter
 
--- the bytes begin with those of a letter that is written
+-- the bytes begin with the bytes of a letter that is written
 pub record Fits (bytes : List ℕ) (letter : ℕ) (stands behind : List ℕ) : Type 0 where
   pub is : written_bytes letter ≡ Some stands
   pub spelled : bytes ≡ stands ++ behind

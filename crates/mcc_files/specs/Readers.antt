@@ -45,7 +45,7 @@ is_at_start _ = false
 abbrev pub packet_in : MccReader → ℕ × Payload
 packet_in reader = (unwrap_or reader.last 0, payload_in (read_bytes reader))
 
--- the bytes are those of its payload
+-- the bytes are its payload's
 abbrev pub HasWholeBytes : MccReader → Type 0
 HasWholeBytes reader = read_bytes reader ≡ payload_bytes (packet_in reader).1
 
@@ -73,7 +73,7 @@ TakesOn before placed byte reader (Ok true) =
     HasRead (before ++ byte ∷ []) (placed ++ packet_in reader ∷ []) reader × HasWholeBytes reader
 TakesOn before placed byte reader (Err offence) = OffendsBehind before byte offence
 
--- after a reader stands another, which took a packet's line more, that of this many bytes with which these begin
+-- after a reader stands another, which took a packet's line more, the line of this many bytes with which these begin
 pub record IsBehindLine (old : MccReader) (bytes : List ℕ) (count : ℕ) (new : MccReader) : Type 0 where
   pub front : List ℕ
   pub within : count ≤ length bytes
@@ -93,7 +93,7 @@ abbrev pub back_in : Phase → Open → ℕ
 back_in phase.Payload payload = item_back payload.digit
 back_in _ payload = 0
 
--- the bytes end: they are a file of the packets, the last of them perhaps that of the open line; or they end too soon
+-- the bytes end: they are a file of the packets, the last of them perhaps the open line's; or they end too soon
 abbrev pub Finishes : List ℕ → TimedPackets → MccReader → Result Bool Why → Type 0
 Finishes before placed reader (Ok false) = IsMccFile placed before
 Finishes before placed reader (Ok true) = IsMccFile (placed ++ packet_in reader ∷ []) before × HasWholeBytes reader

@@ -56,7 +56,7 @@ payload_in _ = record { did = 0; sdid = 0; user = [] }
 abbrev pub packet_of : State → ℕ × Payload
 packet_of s = (unwrap_or s.last 0, payload_in s.payload.bytes)
 
--- the packets, with that of the line that ends, if it is a packet's
+-- the packets, with the packet of the line that ends, if it is a packet's
 abbrev pub placed_with : State → Bool → TimedPackets
 placed_with s false = s.placed
 placed_with s true = s.placed ++ packet_of s ∷ []
@@ -124,7 +124,7 @@ begun s byte =
     else if is_letter byte then taken s (not (is_some s.last)) (in_phase s (phase.Name (if byte == 84 then 1 else 0)))
     else taken s (is_digit byte && is_some s.count) (record s { phase = phase.Time; text = byte ∷ [] })
 
--- the name of an attribute has ended: that of the rate, of which there is one, or another
+-- the name of an attribute has ended: the rate's, of which there is one, or another
 abbrev pub named : State → ℕ → Result State Offence
 named s matched =
     if matched == 14

@@ -7,8 +7,8 @@ const FILLERS: [u8; 27] = [
     0xFA, 0, 0,
 ];
 
-/// The bytes for which a letter stands: `G` to `O` for 1 to 9 times FA 00 00, `P`, `Q` and `R` for FB, FC and FD 80 80, `S` for
-/// 96 69, `T` for 61 01, `U` for E1 00 00 00, and `Z` for 00. None exactly where the byte is no such letter.
+/// The bytes for which a letter stands. `G` to `O` are 1 to 9 times FA 00 00, and `P`, `Q` and `R` are FB, FC and FD 80 80. `S`
+/// is 96 69, `T` is 61 01, `U` is E1 00 00 00, and `Z` is 00. None exactly where the byte is no such letter.
 pub fn letter_bytes(letter: u8) -> Option<&'static [u8]>
     ensures { MatchOption result (letter_bytes letter ≡ None)
         (λ bytes. letter_bytes letter ≡ Some bytes.now) }

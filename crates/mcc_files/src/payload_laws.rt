@@ -43,7 +43,7 @@ pub fn written_payloads_are_payloads()
         → IsWritten (payload_bytes payload) text → read_payload text ≡ Ok (payload_bytes payload) }
 {}
 
-/// The words of a payload are those of a packet, and each packet whose user words are 8-bit words has the words of a payload.
+/// The words of a payload are a packet's, and each packet whose user words are 8-bit words has the words of a payload.
 pub fn payloads_are_packets()
     ensures packet { (payload : Payload) → All (λ byte. byte < 256) (payload_bytes payload)
         → IsPacketBytes (packet_of payload.did payload.sdid payload.user) (payload_words payload) }

@@ -148,7 +148,7 @@ impl PayloadReader {
 
     /// Reads the payload with which a text begins, in place of all that was read before, and gives what follows it there. None where the items
     /// with which the text begins, as many as there are and a packet has room for, don't stand for a whole packet with the right checksum
-    /// byte: then nothing is read, and a reader that takes the text byte by byte tells what stands there.
+    /// byte. Then nothing is read, and a reader that takes the text byte by byte tells what stands there.
     pub fn read_payload<'a>(&mut self, text: &'a [u8]) -> Option<&'a [u8]>
         ensures { MatchOption result (open_of self.new ≡ nothing_open)
             (λ rest. IsBehindPayload text.now rest.now self.new) }
@@ -290,7 +290,7 @@ impl PayloadReader {
     /// Takes a byte of the text. Where it offends nothing changes.
     ///
     /// MccSyntax comes exactly where no item begins or can continue with the byte, where a whole packet stands before it, and where a letter
-    /// brings a byte too many; AncSum where the item brings a checksum byte with other bits than the low eight of the checksum word.
+    /// brings a byte too many. AncSum comes if the item brings a checksum byte with other bits than the low eight of the checksum word.
     /// Where an item of two digits offends, the offence is at its first digit.
     pub fn take(&mut self, byte: u8) -> Result<(), Offence>
         ensures { StepsTo (step true (open_of self.old) byte) self.old self.new result }

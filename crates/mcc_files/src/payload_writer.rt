@@ -92,9 +92,9 @@ fn low_bytes(words: &[[u8; 2]], bytes: &mut [u8; MOST])
     }
 }
 
-/// Adds the payload of the packet of these bytes, whose user words are 8-bit words, to `out`, in which there is room for 518 bytes: DID,
-/// SDID, count, the user bytes and the low eight bits of the checksum word (SMPTE ST 291-1), at each byte the letter with the most bytes
-/// that fits, of `G` to `T` and `Z`, else two upper-case hex digits.
+/// Adds the payload of the packet of these bytes, whose user words are 8-bit words, to `out`, in which there is room for 518 bytes. It
+/// has DID, SDID, count, the user bytes and the low eight bits of the checksum word (SMPTE ST 291-1). At each byte stands the letter
+/// with the most bytes that fits, of `G` to `T` and `Z`, else two upper-case hex digits.
 pub fn add_payload<const ROOM: usize>(packet: &[u8], out: &mut ArrayVec<u8, ROOM>)
     requires packet { (payload : Payload) × IsPayloadOf payload packet.now }
     requires room { array_vec_len out.old + 518 ≤ ROOM }
@@ -123,8 +123,8 @@ pub(crate) fn checksum_byte(did: u8, sdid: u8, user: &[u8]) -> u8
 }
 
 /// Writes the payload of a packet with these identifiers and user bytes, at most 255, each an 8-bit word there, into `out`, which is
-/// empty before: DID, SDID, count, the user bytes and the low eight bits of the checksum word (SMPTE ST 291-1), at each byte the
-/// letter with the most bytes that fits, of `G` to `T` and `Z`, else two upper-case hex digits.
+/// empty before. It has DID, SDID, count, the user bytes and the low eight bits of the checksum word (SMPTE ST 291-1). At each byte
+/// stands the letter with the most bytes that fits, of `G` to `T` and `Z`, else two upper-case hex digits.
 pub fn write_payload(did: u8, sdid: u8, user: &[u8], out: &mut ArrayVec<u8, 518>)
     requires few { length user.now ≤ 255 }
     requires empty { out.old.items ≡ [] }

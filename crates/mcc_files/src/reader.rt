@@ -127,8 +127,8 @@ impl MccReader {
 
     /// Reads the packet's line with which bytes begin, after what `before` has read, in place of all that was read here: how many bytes the
     /// line has. It has a time code's text, TAB, a payload, and LF or CR LF, of which nothing offends. None where no line begins with the next
-    /// byte, or the bytes begin with no such line: then a reader that takes them one by one tells what stands there, and this one is of no
-    /// use until it reads such a line.
+    /// byte, or the bytes begin with no such line. Then a reader that takes them one by one tells what stands there, and this one is of no use
+    /// until it reads such a line.
     pub fn read_line_behind(&mut self, before: &MccReader, bytes: &[u8]) -> Option<usize>
         ensures { IfSome result (λ count. IsBehindLine before.now bytes.now count self.new) }
     {
@@ -433,10 +433,11 @@ impl MccReader {
     /// Takes a byte of a file, after those that it took before, of which none offended: whether the line of a packet has ended
     /// with it, which is then the packet of `frame` and `bytes`. The file may come in any pieces. After an offence a reader is of no use.
     ///
-    /// Err comes exactly where the byte is the first that offends, or ends the first time code, item or name of a time code rate
-    /// that does, with how many bytes before this byte the offence is: Header at a byte that no first line has, MccSyntax at one that
-    /// no line can continue with, at a letter of a payload that brings a byte too many, and at the first byte of a line with a second
-    /// time code rate; NoSuchTime and Backwards at the first byte of a time code; AncSum at the first byte of a checksum byte's item.
+    /// Err comes exactly where the byte is the first that offends, or ends the first time code, item or name of a time code rate that
+    /// does. It says how many bytes before this byte the offence is. Header comes at a byte that no first line has. MccSyntax comes
+    /// at one that no line can continue with, and at a letter of a payload that brings a byte too many. It comes too at the first
+    /// byte of a line with a second time code rate. NoSuchTime and Backwards come at the first byte of a time code, and AncSum at the
+    /// first byte of a checksum byte's item.
     pub fn take(&mut self, byte: u8) -> Result<bool, Offence>
         ensures { (before : List ℕ) (placed : TimedPackets) → HasRead before placed self.old
             → TakesOn before placed byte self.new result }

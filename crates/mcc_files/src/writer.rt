@@ -42,8 +42,8 @@ pub fn head(count: Counting, out: &mut ArrayVec<u8, HEAD>)
     add(b"\n\n", out);
 }
 
-/// The line of a packet with these identifiers and user bytes, at most 255, at a frame of the day, into `out`, which is empty before:
-/// the frame's time code with a colon throughout, TAB, the payload and LF.
+/// The line of a packet with these identifiers and user bytes, at most 255, at a frame of the day, into `out`, which is empty before.
+/// It has the frame's time code with a colon throughout, TAB, the payload and LF.
 pub fn packet_line(
     count: Counting,
     frame: u32,

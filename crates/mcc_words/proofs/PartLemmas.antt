@@ -37,7 +37,7 @@ foreign_file payload bytes other = record {
   carried = foreign (packet_of payload.did payload.sdid payload.user) [] [] (no_captions payload other) none;
 }
 
--- those of a distribution packet bring its frame
+-- the words of a distribution packet bring its frame
 own_file : (frame : Frame) (user : List ℕ) → AreBytes user → length user ≤ 255 → IsCdp frame user → IsFileOf (frame ∷ []) (packet_bytes 0x61 0x01 user)
 own_file frame user bytes few is = record {
   packets = packet_of 0x61 0x01 user ∷ [];

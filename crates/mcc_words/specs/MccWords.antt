@@ -16,12 +16,12 @@ use Rattle.mcc_words.specs.declared.maker.Before.{Before}
 abbrev pub carries_captions : Payload → Bool
 carries_captions payload = (payload.did == 0x61) && (payload.sdid == 0x01)
 
--- how many frames are missing between the frame of the packet of captions before, if there is one, and that of the next
+-- how many frames are missing between the frame of the packet of captions before, if there is one, and the next one's
 abbrev pub missing : Option ℕ → ℕ → ℕ
 missing None frame = 0
 missing (Some last) frame = frame - (last + 1)
 
--- the number of the first of them: that of the packet put before, plus 1, modulo 65536
+-- the number of the first of them: the number of the packet put before, plus 1, modulo 65536
 abbrev pub first_number : Before → ℕ
 first_number before = (before.counter + before.raised + 1) % 65536
 
@@ -30,7 +30,7 @@ abbrev pub missing_words : Option Before → ℕ → List ℕ
 missing_words None frame = []
 missing_words (Some before) frame = words_without before.rate (first_number before) (missing (Some before.frame) frame)
 
--- a packet's counter counts the missing frames: it is that of the packet of captions before it plus the frames from that one to it
+-- a packet's counter counts the missing frames: it is the counter of the packet of captions before it plus the frames from that one to it
 abbrev pub counts_missing : Before → ℕ → ℕ → Bool
 counts_missing before frame counter = (before.counter + (frame - before.frame)) % 65536 == counter
 

@@ -3,7 +3,7 @@
 -- all else as it came.
 use Rattle.std.specs.Prelude.{◌≡◌, ℕ, ◌+◌, ◌*◌, ◌%◌, ◌<◌, List, [], ◌∷◌, ◌++◌, length, sum}
 
--- the user bytes are those of a distribution packet with the counter raised by so much, modulo 65536
+-- the user bytes are a distribution packet with the counter raised by this much, modulo 65536
 pub record IsRaised (by : ℕ) (user raised : List ℕ) : Type 0 where
   pub head : List ℕ
   pub middle : List ℕ

@@ -41,18 +41,18 @@ placed_packet part = (part.at, part.payload)
 abbrev pub part_frames : CaptionPart → List Frame
 part_frames part = part.missing ++ part.own ∷ []
 
--- its missing frames are without captions, and its own is that of the payload
+-- its missing frames are without captions, and its own is its payload's
 pub record IsPart (part : CaptionPart) : Type 0 where
   pub without : All IsWithoutCaptions part.missing
   pub own : IsOfPayload part.payload part.own
 
--- before each packet as many frames are missing as lie between its frame of the day and that of the packet before it; none before the first
+-- before each packet as many frames are missing as lie between its frame of the day and the previous packet's; none before the first
 abbrev pub AreSpaced : Option ℕ → List CaptionPart → Type 0
 AreSpaced before [] = ⊤
 AreSpaced None (part ∷ more) = (part.missing ≡ []) × AreSpaced (Some part.at) more
 AreSpaced (Some before) (part ∷ more) = (length part.missing ≡ part.at - (before + 1)) × AreSpaced (Some part.at) more
 
--- the frames are those of the packets of captions in their order, each after the frames that are missing before it
+-- the frames are the frames of the packets of captions in their order, each after the frames that are missing before it
 pub record StandApart (placed : TimedPackets) (frames : List Frame) : Type 0 where
   pub parts : List CaptionPart
   pub are : All IsPart parts
@@ -94,7 +94,7 @@ pub record AreFromTo (captions : TimedPackets) (first last : ℕ) : Type 0 where
   pub before : TimedPackets
   pub ends : captions ≡ before ++ (last, other) ∷ []
 
--- in each place stands the packet of captions of its frame of the day, counted from that of the first one, or a frame without captions
+-- in each place stands the packet of captions of its frame of the day, counted from the first one's, or a frame without captions
 -- where there is none
 pub record StandAtTheirFrames (captions : TimedPackets) (first last : ℕ) (frames : List Frame) : Type 0 where
   pub own : (at : ℕ) (payload : Payload) → IsAmong captions at payload → HasFrameAt frames (at - first) (IsOfPayload payload)

@@ -112,8 +112,8 @@ impl MccWords {
         Some(frames)
     }
 
-    /// Puts the words of the packet of captions that was begun into an empty `out`: its user bytes with the counter raised by the frames
-    /// that were put so far and that it doesn't count already, in an ancillary packet (SMPTE ST 334-1).
+    /// Puts the words of the packet of captions that was begun into an empty `out`, as an ancillary packet (SMPTE ST 334-1). They have
+    /// its user bytes with the counter raised by the frames that were put so far and that it doesn't count already.
     pub fn put_captions(&self, user: &[u8], out: &mut ArrayVec<u8, 524>)
         requires few { length user.now ≤ 255 }
         requires packet { (packet : Frame) × IsCdp packet user.now }

@@ -32,8 +32,9 @@ impl MissingFrames {
     ghost use Rattle.mcc_words.specs.Makers.{PutsNext};
 
     /// Puts the words of the next missing frame into an empty `out`: whether one was left. It is the packet of a programme's frame
-    /// without captions: a null pair in each field that has a slot there, at 59.94 and 60 frames a second in field 1 where its number is
-    /// even and in field 2 where it is odd, and triplets that don't count up to the rate's number (SMPTE ST 334-1 and ST 334-2).
+    /// without captions (SMPTE ST 334-1 and ST 334-2). It has a null pair in each field that has a slot there. At 59.94 and 60 frames a
+    /// second that is field 1 where its number is even, and field 2 where it is odd. The others are triplets that don't count, up to the
+    /// rate's number.
     pub fn put_next(&mut self, out: &mut ArrayVec<u8, 524>) -> bool
         requires { out.old.items ≡ [] }
         ensures { PutsNext self.old self.new result out.new.items }

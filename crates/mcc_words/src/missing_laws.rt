@@ -3,16 +3,16 @@
 ghost use Rattle.mcc_words.specs.Standing.{PacketsStandApart, PacketsStandAtTheirFrames, WordsHaveFrames};
 ghost use Rattle.mcc_words.specs.Unchanged.{FramesWithoutChangeNothing, FramesWithoutTellTime, MissingFramesChangeNothing};
 
-/// The words of an MCC file are a words file. Its frames are those of the packets of captions in their order, each after the frames
-/// without captions that are missing before it: as many as lie between its frame of the day and that of the packet of captions before it,
-/// and none where both are at one frame.
+/// The words of an MCC file are a words file. Its frames are the frames of the packets of captions in their order, each after the frames
+/// without captions that are missing before it. As many are missing as lie between its frame of the day and the frame of the packet of
+/// captions before it, and none where both are at one frame.
 pub fn packets_stand_apart()
     ensures file { WordsHaveFrames }
     ensures apart { PacketsStandApart }
 {}
 
-/// Where no two packets of captions are at one frame of the day, the words of an MCC file have, counted from the frame of the first one,
-/// at each frame of the day its packet of captions, or a frame without captions where it has none, up to that of the last one.
+/// Let no two packets of captions be at one frame of the day. Then the words of an MCC file have at each frame of the day its packet of
+/// captions, or a frame without captions where it has none. Frames are counted from the frame of the first one, up to the last one's.
 pub fn packets_stand_at_their_frames()
     ensures { PacketsStandAtTheirFrames }
 {}

@@ -25,8 +25,8 @@ fn balanced(last: u8, before: (u8, u8), now: (u8, u8)) -> u8
     ((more + 1024 - fewer) % 256) as u8
 }
 
-/// Writes the bytes of a distribution packet with its counter raised by so much, modulo 65536, in the header and in the footer, and
-/// with its sum made right, into an empty `out` (SMPTE ST 334-2).
+/// Writes the bytes of a distribution packet with its counter raised by this much, modulo 65536, in the header and in the footer,
+/// into an empty `out` (SMPTE ST 334-2). Its sum is made right.
 pub fn raise(user: &[u8], by: u16, out: &mut ArrayVec<u8, 255>)
     requires few { length user.now ≤ 255 }
     requires packet { (packet : Frame) × IsCdp packet user.now }

@@ -15,7 +15,7 @@ pub struct Given<'a> {
     pub failing_takes: &'a [u64],
     /// The numbers of the puts to the output that fail, of those that aren't empty.
     pub failing_puts: &'a [u64],
-    /// The numbers of the puts to the error output that fail: those of the status line's pieces.
+    /// The numbers of the puts to the error output that fail: the puts of the status line's pieces.
     pub failing_line: &'a [u64],
     /// The most bytes that the output takes.
     pub room: usize,

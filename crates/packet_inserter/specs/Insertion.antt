@@ -56,7 +56,7 @@ pub record IsPutAmong (section : List ℕ) (old new : List (List ℕ)) : Type 0 
   pub kept : filter is_kept old ≡ before ++ behind
   pub new_is : new ≡ before ++ section ∷ behind
 
--- the triplets are those of the new packet, which is the old one in all else: flag bits 6 and 1, cc_data and active captions,
+-- the triplets are the new packet's, which is the old one in all else: flag bits 6 and 1, cc_data and active captions,
 -- are set, and the others stay
 pub record IsInserted (triplets : List Triplet) (old new : Frame) : Type 0 where
   pub rate : new.rate ≡ old.rate

@@ -4,7 +4,7 @@ use Rattle.std.specs.Prelude.{◌≡◌, ℕ, ◌++◌, ◌∷◌, [], ◌⊎◌
 use Rattle.std.specs.List.{All, concat}
 use Rattle.packet_inserter.specs.Insertion.{is_time_code_section}
 
--- the bytes are those of the time codes with which the sections begin: after them stands another section, or none
+-- the bytes are the bytes of the time codes with which the sections begin: after them stands another section, or none
 pub record StandsBehindTimeCodes (sections : List (List ℕ)) (place : ℕ) : Type 0 where
   pub before : List (List ℕ)
   pub behind : List (List ℕ)

@@ -20,9 +20,9 @@ const CAPTION_FLAGS: u8 = 0x42;
 const ROOM: usize = 244;
 
 /// Writes a distribution packet with these triplets, at most 31 of kinds below 4, in place of those that it has, into an empty
-/// `out`: its cc_data sections go, and one with the triplets stands in the place of the first of them, or, where there was none,
-/// before the first section that isn't a time code, or else at the end. Flag bits 6 and 1 are set; rate, counter and all else stay,
-/// but the four bits beside the rate, which are written as ones (SMPTE ST 334-2).
+/// `out`. Its cc_data sections go, and one with the triplets stands in the place of the first of them. Where there was none, it
+/// stands before the first section that isn't a time code, or else at the end. Flag bits 6 and 1 are set; rate, counter and all
+/// else stay, but the four bits beside the rate, which are written as ones (SMPTE ST 334-2).
 ///
 /// The limit `Packet` comes exactly where the packet would have more than 255 bytes. Nothing is written then.
 pub fn insert(

@@ -75,7 +75,7 @@ fn time_codes_len(sections: &[u8]) -> usize
     place
 }
 
-/// The number of bytes before the place of a new section of cc_data: that of the first such section; else before the first section
+/// The number of bytes before the place of a new section of cc_data: the first such section's place; else before the first section
 /// that isn't a time code; else at the end.
 pub(crate) fn place(sections: &[u8]) -> usize
     ensures { (cut : List (List ℕ)) → AreSections cut → concat cut ≡ sections.now

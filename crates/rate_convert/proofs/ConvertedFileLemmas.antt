@@ -65,7 +65,7 @@ second_file number frame is are =
     let ten = second_ten (packet_triplets frame) is.most in
     triplets_file F5994 (2 * number + 1) (second_half (packet_triplets frame)) (omega (arith, ten)) (second_half_all IsByteTriplet filler_bytes (packet_triplets frame) are)
 
--- and those of all halves
+-- and the words of all halves
 conversion_file : (number : ℕ) (frames : List Frame) → All IsConvertible frames → All IsOfBytes frames
     → IsFileOf (conversion_from number frames) (flat_map carried_words (conversion_from number frames))
 conversion_file number [] all are = record { packets = []; file = IsWordsFile-nil; carried = none }

@@ -44,7 +44,7 @@ sections_kinds [] = All-nil IsKind
 sections_kinds (section ∷ sections) =
     All-append IsKind (section_triplets section) (flat_map section_triplets sections) (section_kinds section) (sections_kinds sections)
 
--- what holds of the triplets of a frame, and of a filler, holds of those of its halves
+-- what holds of the triplets of a frame, and of a filler, holds of its halves' triplets
 first_all : (P : Triplet → Type 0) → P filler → (ts : List Triplet) → All P ts → P (get_or ts 0 filler)
 first_all P fill [] all = fill
 first_all P fill (t ∷ ts) all = All-head P t ts all

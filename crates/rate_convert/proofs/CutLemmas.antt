@@ -107,7 +107,7 @@ half_pairs f t ts n all =
     (pairs_append f ts (replicate n filler) ∙ ap (λ (l : List Pair). l ++ field_pairs f (replicate n filler)) (service_no_pairs f ts all) ∙ fillers_no_pairs f n)
     ∙ append-nil (field_pair f t)
 
--- a field's pairs are those of its own triplets
+-- a field's pairs are the pairs of its own triplets
 own_pairs : (f : FieldNumber) (ts : List Triplet) → field_pairs f ts ≡ field_pairs f (of_field f ts)
 own_pairs f [] = refl
 own_pairs f (t ∷ ts) = by_test (is_of f t) refl (own_pairs f ts)

@@ -46,7 +46,7 @@ record AreAlike (n : ℕ) (a b : CoreState) : Type 0 where
   behind : EndsBehind n a.until
   good : AllGood a.held
 
--- the clocks of a frame: that of the whole frame, and that of one of its halves
+-- the clocks of a frame: the whole frame's, and one of its halves'
 record AreClocks (n : ℕ) (a b : Clock) : Type 0 where
   ticks : a.ticks ≡ n
   slow : a.rate ≡ F2997

@@ -53,7 +53,7 @@ channel_kinds ts =
     passing (λ triplet. starts triplet || continues_packet triplet)
     (λ t is. either (starts t) (continues_packet t) (IsKind t) (λ one. kind_is t.valid t.kind 3 (omega arith) one) (λ two. kind_is t.valid t.kind 2 (omega arith) two) is) ts
 
--- and so have those of both halves
+-- and so have the triplets of both halves
 one_kind : (ts : List Triplet) → All IsKind ts → IsKind (get_or ts 0 filler)
 one_kind [] all = omega arith
 one_kind (t ∷ ts) all = All-head IsKind t ts all
@@ -77,7 +77,7 @@ ten_are field channel copied behind first one same rest =
     ∙ ap (λ (l : List Triplet). get_or field 0 filler ∷ (l ++ behind)) same
     ∙ ap (λ (l : List Triplet). get_or field 0 filler ∷ (channel ++ l)) (rest ∙ drop_fillers (length channel) 9)
 
--- the words of one packet after those of another
+-- the words of one packet after another's
 pub words_are : (counter next frame : ℕ) (first second : List Triplet) (none one two : List ℕ) → counter ≡ (2 * frame) % 65536 → next ≡ (2 * frame + 1) % 65536
     → none ≡ [] → one ≡ none ++ carried_words (triplets_packet F5994 counter first) → two ≡ one ++ carried_words (triplets_packet F5994 next second)
     → two ≡ carried_words (triplets_packet F5994 (2 * frame) first) ++ carried_words (triplets_packet F5994 (2 * frame + 1) second)

@@ -1,6 +1,6 @@
 -- Believed: the program's answer stands on these definitions.
 -- What frames at 29.97 frames a second become at 59.94 (SMPTE ST 334-2; CTA-708-E, cc_data()): each becomes two, its halves, which carry
--- what it carried. Other sections than cc_data, and other ancillary packets than those of captions, are left out.
+-- what it carried. Other sections than cc_data, and ancillary packets that aren't of captions, are left out.
 use Rattle.std.specs.Prelude.{◌≡◌, ℕ, suc, ◌+◌, ◌-◌, ◌*◌, ◌≤◌, ◌==◌, ◌&&◌, Bool, List, [], ◌∷◌, ◌++◌, drop, filter, length, replicate, take, get_or}
 use Rattle.std.specs.List.{flat_map}
 use Rattle.cc_base.specs.declared.rate.Rate.TheVariants.{F2997, F5994}
@@ -33,7 +33,7 @@ pub record IsConvertible (frame : Frame) : Type 0 where
 abbrev pub ten_triplets : List Triplet → List Triplet → List Triplet
 ten_triplets field channel = get_or field 0 filler ∷ (channel ++ replicate (9 - length channel) filler)
 
--- the first half has the triplet of field 1, and of those of channel packets the first nine; the second half has that of field 2, and the
+-- the first half has the triplet of field 1, and the first nine of channel packets; the second half has the triplet of field 2, and the
 -- others
 abbrev pub first_half : List Triplet → List Triplet
 first_half triplets = ten_triplets (of_field One triplets) (take 9 (channel_triplets triplets))
@@ -48,7 +48,7 @@ first_half_of number frame = triplets_packet F5994 (2 * number) (first_half (pac
 abbrev pub second_half_of : ℕ → Frame → Frame
 second_half_of number frame = triplets_packet F5994 (2 * number + 1) (second_half (packet_triplets frame))
 
--- those of frames, of which the first has this number
+-- the halves of frames, of which the first has this number
 abbrev pub conversion_from : ℕ → List Frame → List Frame
 conversion_from number [] = []
 conversion_from number (frame ∷ frames) = first_half_of number frame ∷ second_half_of number frame ∷ conversion_from (suc number) frames

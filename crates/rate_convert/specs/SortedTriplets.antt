@@ -1,5 +1,5 @@
 -- Between crates: the program's answer stands on none of these definitions.
--- The triplets of a frame, sorted: those of each field, and those of channel packets (CTA-708-E, cc_data()).
+-- The triplets of a frame, sorted: each field's, and the channel packets' (CTA-708-E, cc_data()).
 use Rattle.std.specs.Prelude.{◌≡◌, List, length}
 use Rattle.cc_base.specs.declared.rate.Rate.TheVariants.{F2997}
 use Rattle.cc_data.specs.declared.triplet.Triplet.{Triplet}
@@ -15,7 +15,7 @@ pub record AreSorted (triplets : List Triplet) (sorted : Sorted) : Type 0 where
   pub twos : sorted.twos.items ≡ of_field Two triplets
   pub channel : sorted.channel.items ≡ channel_triplets triplets
 
--- they are those of some triplets
+-- they are some triplets, sorted
 pub record IsSorted (sorted : Sorted) : Type 0 where
   pub triplets : List Triplet
   pub are : AreSorted triplets sorted

@@ -16,10 +16,10 @@ use findings::Misfit;
 use std::alloc::{AllocError, Global};
 
 /// Converts a words file at 29.97 frames a second, whose bytes come in any pieces, to one at 59.94: each frame becomes two (SMPTE ST
-/// 334-1 and ST 334-2; CTA-708-E, cc_data()). The first has the triplet of field 1 and up to nine of channel packets, the second that of
-/// field 2 and the others. It tells where a frame can't be converted, or something else would be seen (`Misfit`).
+/// 334-1 and ST 334-2; CTA-708-E, cc_data()). The first has the triplet of field 1 and up to nine of channel packets, the second has
+/// field 2's and the others. It tells where a frame can't be converted, or something else would be seen (`Misfit`).
 ///
-/// Other sections than cc_data, and other ancillary packets than those of captions, are left out. It refuses what a `Receiver` refuses.
+/// Other sections than cc_data, and ancillary packets that aren't of captions, are left out. It refuses what a `Receiver` refuses.
 /// All memory that it ever takes is taken by `new`.
 #[derive(Drop)]
 pub struct Converter {
@@ -68,8 +68,8 @@ impl Converter {
         }
     }
 
-    /// Says whether the bytes fed may end here: the kept refusal, if there is one; else `Truncated`, at the number of bytes fed, where
-    /// bytes were fed and the last of them doesn't end a packet.
+    /// Says whether the bytes fed may end here. Else it answers the kept refusal, if there is one, or `Truncated`, at the number of
+    /// bytes fed, where bytes were fed and the last of them doesn't end a packet.
     pub fn finish(&self) -> Result<(), Refusal>
         ensures whole { (bytes : List ℕ) → HasConverted bytes self.now → IsOk result
             → (frames : List Frame) × IsFileUnder caption_channel frames bytes }
@@ -102,8 +102,8 @@ impl Converter {
         self.halver.misfit()
     }
 
-    /// The bytes of the two ancillary packets that the last whole frame becomes, which has no misfit: a words file of the frames whose
-    /// numbers are twice its own and one more (SMPTE ST 334-1 and ST 334-2).
+    /// The bytes of the two ancillary packets that the last whole frame becomes, which has no misfit (SMPTE ST 334-1 and ST 334-2).
+    /// They are a words file of the frames whose numbers are twice its own and one more.
     pub fn words(&self) -> ArrayVec<u8, 200>
         requires some { 0 < converted_frames self.now }
         requires none { converter_misfit self.now ≡ None }

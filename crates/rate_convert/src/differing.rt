@@ -70,8 +70,8 @@ fn first_differing(input: &Receiver, output: &Served) -> Option<u8>
     None
 }
 
-/// The first service, 1 to 63, of which something else is seen at a receiver than at services that took other frames, if there is one,
-/// where before the last frame the same was seen of all; `touched` says whether these may have changed (CTA-708-E).
+/// The first service, 1 to 63, of which something else is seen at a receiver than at services that took other frames, if there is one.
+/// Before the last frame the same was seen of all; `touched` says whether these may have changed (CTA-708-E).
 pub(crate) fn first_changed(input: &Receiver, output: &Served, touched: bool) -> Option<u8>
     requires { 0 < frame_count input.now }
     ensures { (bytes : List ℕ) (earlier before others : List Frame) (last : Frame)

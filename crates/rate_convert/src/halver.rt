@@ -17,8 +17,8 @@ use cc_receiver::{Receiver, Served};
 use findings::{Misfit, MisfitKind, Which};
 use std::alloc::{AllocError, Global};
 
-/// Turns the frames of a receiver, one after another, into two each at 59.94 frames a second, and tells where one can't be converted or
-/// something else would be seen (SMPTE ST 334-1 and ST 334-2; CTA-708-E).
+/// Turns the frames of a receiver, one after another, into two each at 59.94 frames a second (SMPTE ST 334-1 and ST 334-2). It tells
+/// where one can't be converted or something else would be seen (CTA-708-E).
 ///
 /// What is seen of line 21 is always the same, as each field has the same pairs; so it has the services of its own output, and no
 /// fields. All memory that it ever takes is taken by `new`.

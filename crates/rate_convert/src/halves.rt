@@ -30,7 +30,7 @@ pub(crate) struct Halves {
 }
 
 impl Halves {
-    /// Those of sorted triplets, of which at most eighteen are of channel packets.
+    /// The halves of sorted triplets, of which at most eighteen are of channel packets.
     pub(crate) fn of(sorted: &Sorted) -> Halves
         requires sorted { IsSorted sorted.now }
         requires few { length sorted.now.channel.items ≤ 18 }
@@ -79,7 +79,7 @@ impl Halves {
     }
 }
 
-// The triplets of the first half: that of field 1, and the first nine of channel packets.
+// The triplets of the first half: field 1's, and the first nine of channel packets.
 fn first_half(sorted: &Sorted) -> [Triplet; 10]
     ensures { (triplets : List TripletOf) → AreSorted triplets sorted.now
         → result ≡ first_half triplets }
@@ -89,7 +89,7 @@ fn first_half(sorted: &Sorted) -> [Triplet; 10]
     ten_triplets(&sorted.ones, &channel[..cut])
 }
 
-// The triplets of the second half: that of field 2, and the others of channel packets, of which there are eighteen at most.
+// The triplets of the second half: field 2's, and the others of channel packets, of which there are eighteen at most.
 fn second_half(sorted: &Sorted) -> [Triplet; 10]
     requires { length sorted.now.channel.items ≤ 18 }
     ensures { (triplets : List TripletOf) → AreSorted triplets sorted.now
@@ -100,7 +100,7 @@ fn second_half(sorted: &Sorted) -> [Triplet; 10]
     ten_triplets(&sorted.twos, &channel[cut..])
 }
 
-// The ten triplets of a half: the first of those of a field, if there is one, and those of channel packets, of which there are at most nine.
+// The ten triplets of a half: a field's first one, if there is one, and the channel packets', of which there are at most nine.
 fn ten_triplets(field: &[Triplet], channel: &[Triplet]) -> [Triplet; 10]
     requires few { length channel.now ≤ 9 }
     ensures { result ≡ ten_triplets field.now channel.now }

@@ -13,7 +13,7 @@ pub(crate) const TWENTY: usize = 20;
 /// The most triplets of channel packets that two frames at 59.94 have room for.
 const MOST: usize = 18;
 
-/// The triplets of a frame that count: those of field 1, those of field 2, and those of channel packets, each in order.
+/// The triplets of a frame that count: field 1's, field 2's, and the channel packets', each in order.
 #[derive(Drop)]
 pub(crate) struct Sorted {
     pub(crate) ones: ArrayVec<Triplet, TWENTY>,

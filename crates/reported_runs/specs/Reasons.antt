@@ -1,5 +1,5 @@
 -- Believed: the library's answers stand on these definitions.
--- Reasons as they are told: with their names, and a sentence on each.
+-- Reasons as they are reported: with their names, and a sentence on each.
 use Rattle.std.specs.Prelude.{ℕ, List, codes}
 use Rattle.cc_base.specs.Why.{name_of}
 use Rattle.cc_base.specs.declared.why.Why.{Why}
@@ -48,6 +48,6 @@ sentence_of why.WrongRate = codes "A packet's rate isn't the list's."
 sentence_of why.TwoPairs = codes "A frame has more than one valid field 1 triplet."
 sentence_of why.EightBits = codes "A user word of an ancillary packet isn't an eight-bit word with its parity bits."
 
--- what is told of a reason
+-- a reason as it is reported
 abbrev pub reason_told : Why → Reason
 reason_told reason = record { name = padded 32 (name_of reason); sentence = padded 128 (sentence_of reason) }

@@ -6,7 +6,7 @@ ghost use Rattle.reported_runs.specs.Reasons.{reason_told, sentence_of};
 use crate::line::padded;
 use cc_base::Why;
 
-/// A reason as it is told, by texts with zeros after them.
+/// A reason as it is reported, by texts with zeros after them.
 #[repr(C)]
 #[derive(Clone, Copy, PartialEq, Eq)]
 pub struct Reason {
@@ -64,7 +64,7 @@ pub fn reason_of(number: u32) -> Option<Why>
     }
 }
 
-/// What is told of a reason.
+/// A reason as it is reported.
 pub fn reason_told(why: Why) -> Reason
     ensures { result ≡ reason_told why }
 {

@@ -9,7 +9,7 @@ use ccsuite_cli::{Command, perform};
 use command_base::Status;
 use std::alloc::Global;
 
-/// Runs a command: its input is `input`, its side file is `side`, of which a command that reads none makes nothing, and what it writes
+/// Runs a command. Its input is `input`, and its side file is `side`, of which a command that reads none makes nothing. What it writes
 /// stands at the front of `out`, whose other bytes are as they were.
 ///
 /// What the command answers on its input, its side file and an output that takes all holds of these. Where what it wrote has more bytes

@@ -1,5 +1,5 @@
-//! Tests of runs that rows of `cc_vectors` can't tell: what is seen frame by frame where frames are lost or receivers read printed pairs, the longest
-//! inputs, and words that name a side file or can't be read. There are tests alone here.
+//! Tests of runs that rows of `cc_vectors` can't tell. They are on what is seen frame by frame where frames are lost or receivers read printed pairs,
+//! on the longest inputs, and on words that name a side file or can't be read. There are tests alone here.
 #![tactic(auto)]
 
 #[cfg(test)]

@@ -1,5 +1,6 @@
-//! What a concealing receiver shows of a list's words of which frames are lost: after each loss the authored grids again, on each channel
-//! and in each service, from the SHOW of a cue on that resynchronises it. Each frame, each two neighbours and each front are lost in turn.
+//! What a concealing receiver shows of a list's words of which frames are lost. After each loss it shows the authored grids again, on each
+//! channel and in each service, from the SHOW of a cue on that resynchronises it. Each frame, each two neighbours and each front are lost
+//! in turn.
 
 ghost use Rattle.std.specs.Prelude.{◌≤◌, ℕ, List};
 ghost use Rattle.cc_conceal.specs.Concealers.{HasConcealed};
@@ -97,8 +98,8 @@ fn is_settled(cues: &[Cue], channel: Chan, frame: u32) -> bool {
     true
 }
 
-/// Whether no frame was lost before this one, or a cue with its SHOW by now resynchronises the channel after the last that was: its LOAD
-/// comes later, and it doesn't continue the cue before it.
+/// Whether no frame was lost before this one, or a cue with its SHOW by now resynchronises the channel after the last that was. Such a
+/// cue's LOAD comes later, and it doesn't continue the cue before it.
 fn is_channel_in_step(cues: &[Cue], channel: Chan, lost: Option<u32>, frame: u32) -> bool {
     let Some(lost) = lost else {
         return true;
@@ -207,7 +208,7 @@ struct Sent<'a> {
 }
 
 /// Judges the channels that are in step at a frame, after the last one that is lost before it, and the others of their fields, which
-/// carry nothing: how many are in step after a loss; None if one shows something else.
+/// carry nothing. It gives how many are in step after a loss; None if one shows something else.
 fn judge_channels(
     concealer: &Concealer,
     cues: &[Cue],
@@ -317,8 +318,8 @@ fn judge_losses(alloc: Global, sent: Sent<'_>, frame: u32) -> Result<Option<u32>
     Ok(Some(judged))
 }
 
-/// Judges the words of a list of which none is lost, and each frame in turn, with the next one and with all before it: how many channels and
-/// services are in step after a loss, of all frames of all these; None if one shows something else.
+/// Judges the words of a list of which none is lost, and each frame in turn, with the next one and with all before it. It gives how many
+/// channels and services are in step after a loss, of all frames of all these; None if one shows something else.
 fn judge_sent(alloc: Global, sent: Sent<'_>) -> Result<Option<u32>, AllocError> {
     let Some(mut judged) = judge(alloc, sent, 0, 0)? else {
         return Ok(None);

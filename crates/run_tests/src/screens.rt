@@ -45,7 +45,7 @@ fn pair_of(digits: &str) -> Result<Pair, ParseIntError> {
     Ok(Pair { a, b })
 }
 
-/// The receivers of field 1 and field 2 after the lines up to that of a frame.
+/// The receivers of field 1 and field 2 after the lines up to a frame's.
 fn receivers_at(alloc: Global, lines: &str, frame: usize) -> Result<[Field; 2], Fail> {
     let mut one = Field::new(alloc, false)?;
     let mut two = Field::new(alloc, true)?;

@@ -46,7 +46,7 @@ all_mapped : {A B : Type 0} (P : A → Type 0) (Q : B → Type 0) (f : A → Lis
 all_mapped P Q f each [] all = tt
 all_mapped P Q f each (item ∷ items) (one, all) = all_both Q (f item) (flat_map f items) (each item one) (all_mapped P Q f each items all)
 
--- the user bytes of an ancillary packet are bytes, and so are those of the sections of the distribution packet in it
+-- the user bytes of an ancillary packet are bytes, and so are the bytes of the sections of the distribution packet in it
 low_bytes : (words : List ℕ) → AreBytes (map (λ word. word % 256) words)
 low_bytes [] = tt
 low_bytes (word ∷ words) = (omega arith, low_bytes words)

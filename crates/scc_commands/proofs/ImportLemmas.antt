@@ -86,7 +86,7 @@ pub frames_behind : (pairs : PlacedPairs) (n : ℕ) (last : ℕ × Pair) → fra
 frames_behind [] n last = refl
 frames_behind (placed ∷ pairs) n last = frames_behind pairs (placed.0 + 1) last
 
--- the words of pairs are on their way: those of the frames before this one were gathered
+-- the words of pairs are on their way: the words of the frames before this one were gathered
 pub record WordsOnTheWay (pairs left : PlacedPairs) (frame frames : ℕ) (carrier : Carrier) (held : List ℕ) (old new : Option (List ℕ)) : Type 0 where
   pub at_frame : IsAt rate.F2997 frame 0 carrier
   pub rising : AreRising frame left

@@ -21,7 +21,7 @@ use Rattle.words_reading.specs.FrameTexts.{FramesHalt, FramesSay}
 use Rattle.words_reading.specs.WordsVerdict.{EndsWell, WordsVerdict}
 use Rattle.scc_commands.specs.Import.{PlacedPairs}
 
--- the field 1 pairs of a frame: those of its triplets that count
+-- the field 1 pairs of a frame: the pairs of its triplets that count
 abbrev pub pairs_of : Frame → List Pair
 pairs_of frame = field_pairs One (packet_triplets frame)
 

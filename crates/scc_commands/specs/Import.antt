@@ -34,7 +34,7 @@ pair_at (placed ∷ pairs) frame = if placed.0 == frame then placed.1 else pair_
 abbrev pub import_columns : PlacedPairs → Columns
 import_columns pairs frame = record { one = Some (pair_at pairs frame); two = Some null_pair; blocks = record { items = [] } }
 
--- the distribution packets of the frames up to that of the last pair, at 29.97 frames a second
+-- the distribution packets of the frames up to the last pair's, at 29.97 frames a second
 abbrev pub import_packets : PlacedPairs → List Frame
 import_packets pairs = column_packets rate.F2997 (import_columns pairs) 0 (frames_of pairs)
 

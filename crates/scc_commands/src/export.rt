@@ -15,9 +15,9 @@ use words_reading::{Frames, read_words};
 /// Reads a words file, and puts the SCC file of its field 1 pairs, whose frame 0 has this time code, which a frame of the day must
 /// have. What one take gave is judged, and its text put, before the next take.
 ///
-/// Differs comes at the first frame whose rate isn't 29.97 frames a second, or which has more than one pair of field 1; Limit (Day) at
-/// the first frame at or past the end of the day with a pair that isn't null; Malformed at the first offending word, or where the file
-/// is cut short. Then the text of the frames before was put.
+/// Differs comes at the first frame whose rate isn't 29.97 frames a second, or which has more than one pair of field 1. Limit (Day)
+/// comes at the first frame at or past the end of the day with a pair that isn't null; Malformed at the first offending word, or where
+/// the file is cut short. Then the text of the frames before was put.
 pub fn run_export<M: Source, O: Sink>(
     alloc: Global,
     time: TimeCode,

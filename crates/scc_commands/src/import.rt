@@ -95,7 +95,7 @@ fn status_of(fault: SccFault) -> Status
     }
 }
 
-/// How many frames pairs take: those up to that of the last one.
+/// How many frames pairs take: the frames up to the last one's.
 fn count_frames(pairs: &[(u32, Pair)]) -> u32
     requires { frames_of pairs.now ≤ most_import_frames }
     ensures { result ≡ frames_of pairs.now }

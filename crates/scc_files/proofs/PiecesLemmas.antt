@@ -22,7 +22,7 @@ spaced_words pairs = flat_map (λ (pair : Pair). 32 ∷ pair_word pair) pairs
 abbrev line_ends : List ℕ
 line_ends = 10 ∷ 10 ∷ []
 
--- what is put of pairs, and then of the file's end
+-- the text of pairs, and then of the file's end
 pub text_is : (pairs : List (ℕ × Pair)) (w : Standing) → pieces w pairs ++ end_text (stand_after w pairs).behind ≡ text_from w pairs
 text_is [] w = refl
 text_is (placed ∷ pairs) w =
@@ -171,7 +171,7 @@ module _ (start : ℕ) (drop_frame : Bool) where
       ∙ ap (λ (l : List ℕ). stretch_line start drop_frame stretch ++ l) (apart_ended stretches)
       ∙ sym (append_assoc (stretch_line start drop_frame stretch) line_ends (ended stretches))
 
-  -- what is put of pairs is the front of their written form
+  -- the text of pairs is the front of their written form
   pub front_is : (pairs : List (ℕ × Pair)) → head_text ++ pieces (standing_first start drop_frame) pairs ≡ written_front start drop_frame pairs
   front_is pairs = ap (λ (l : List ℕ). head_text ++ l) (pieces_first pairs)
 

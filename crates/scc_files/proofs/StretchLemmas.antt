@@ -26,7 +26,7 @@ calls_write = record {
   finished = λ start drop_frame pairs bytes w writing. writing [] ∙ ap (written_file start drop_frame) (append-nil pairs);
 }
 
--- the pairs of the stretches are a pair and those of the stretches after it
+-- the pairs of the stretches are a pair and the pairs of the stretches after it
 with_by : (frame : ℕ) (pair : Pair) (stretch : Stretch) (stretches : List Stretch) (test : Bool) → nat_eq (frame + 1) stretch.frame ≡ test
     → stretch_pairs (stretches_with (frame, pair) (stretch ∷ stretches)) ≡ (frame, pair) ∷ stretch_pairs (stretch ∷ stretches)
 with_by frame pair stretch stretches true is =

@@ -39,7 +39,7 @@ line_at p frame =
 abbrev pub pairs_on : Position → ℕ → Position
 pairs_on p count = record p { next = p.next + count }
 
--- a line of this frame of the day begins, unless there is none or it is before that of the line before
+-- a line of this frame of the day begins, unless there is none or it is before the previous line's
 abbrev pub timed : Position → Option ℕ → Result Position Offence
 timed p None = Err (record { back = 10; why = why.NoSuchTime })
 timed p (Some frame) = if nat_lt frame p.last then Err (record { back = 10; why = why.Backwards }) else Ok (line_at p frame)
@@ -96,7 +96,7 @@ read_from judging place r (byte ∷ bytes) = behind place (step judging r byte) 
 abbrev pub read_file : Option ℕ → List ℕ → Result (List (ℕ × Pair)) Refusal
 read_file opening bytes = read_from true 0 (at_first opening) bytes
 
--- how many frames pairs at frames in order take: those up to that of the last one
+-- how many frames pairs at frames in order take: the frames up to the last pair's
 abbrev pub frames_to : ℕ → List (ℕ × Pair) → ℕ
 frames_to frames [] = frames
 frames_to frames (placed ∷ pairs) = frames_to (placed.0 + 1) pairs

@@ -5,7 +5,7 @@ use Rattle.line21_codes.specs.declared.pairs.Pair.{Pair}
 use Rattle.time_codes.specs.Frames.{frame_number, frame_of}
 use Rattle.scc_files.specs.Lines.{IsForm, TimedLine}
 
--- every line's time code is of the day, and none is before that of the line before, of this frame of the day
+-- every line's time code is of the day, and none is before the previous line's, of this frame of the day
 abbrev pub AreTimed : ℕ → List (Option TimedLine) → Type 0
 AreTimed last [] = ⊤
 AreTimed last (None ∷ lines) = AreTimed last lines

@@ -35,8 +35,8 @@ abbrev pub goes_on_with_stretch : Option ℕ → ℕ → Bool
 goes_on_with_stretch None frame = false
 goes_on_with_stretch (Some behind) frame = behind == frame
 
--- what is put of a pair: nothing of a null pair; a space and the word where its stretch goes on; else the end of the stretch before,
--- the time code, a TAB and the word
+-- the text that is written of a pair. Of a null pair it is nothing, where its stretch goes on a space and the word, and else the end
+-- of the stretch before, the time code, a TAB and the word
 abbrev pub piece_of : Standing → ℕ → Pair → List ℕ
 piece_of w frame pair =
     if is_null pair then []

@@ -56,7 +56,7 @@ abbrev pub pairs_not_null : List (ℕ × Pair) → List (ℕ × Pair)
 pairs_not_null [] = []
 pairs_not_null (placed ∷ pairs) = if is_null placed.1 then pairs_not_null pairs else placed ∷ pairs_not_null pairs
 
--- pairs with their frames counted from a frame, and from that of the first one
+-- pairs with their frames counted from a frame, and from the first one's
 abbrev pub counted_from : ℕ → List (ℕ × Pair) → List (ℕ × Pair)
 counted_from first [] = []
 counted_from first (placed ∷ pairs) = (placed.0 - first, placed.1) ∷ counted_from first pairs

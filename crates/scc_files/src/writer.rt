@@ -91,7 +91,7 @@ impl SccWriter {
         piece
     }
 
-    /// What is put of the pair of a frame above those before: nothing of a null pair (80 80), which so ends a stretch; None exactly
+    /// The text of the pair of a frame above those before: nothing of a null pair (80 80), which so ends a stretch. None exactly
     /// where the pair isn't null and its frame stands at or past the end of the start's day.
     pub fn piece(&mut self, frame: u32, pair: Pair) -> Option<ArrayVec<u8, PIECE>>
         ensures { GivesPiece (standing_of self.old) (standing_of self.new) frame pair
@@ -115,8 +115,8 @@ impl SccWriter {
 
     /// Writes the pair of a frame above those before. A null pair (80 80) is left out, and so ends a stretch.
     ///
-    /// Day comes exactly where the pair isn't null and its frame stands at or past the end of the start's day, and puts nothing; Fault
-    /// only where the sink's count of faults rose, with a front of the piece put.
+    /// Day comes exactly where the pair isn't null and its frame stands at or past the end of the start's day, and puts nothing. Fault
+    /// comes only where the sink's count of faults rose, with a front of the piece put.
     pub fn pair<O: Sink>(&mut self, frame: u32, pair: Pair, out: &mut O) -> Result<(), SccPut>
         ensures { WritesPair (standing_of self.old) (standing_of self.new) frame pair
             (O.written out.old) (O.written out.new) (O.faults out.old) (O.faults out.new) result }

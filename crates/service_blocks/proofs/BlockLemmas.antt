@@ -72,7 +72,7 @@ open_block-some header rest few = ap (λ (t : Bool). if t then [] else header �
 open_block-whole : (header : ℕ) (rest : List ℕ) → length rest ≡ rest_of header → open_block header rest ≡ []
 open_block-whole header rest many = ap (λ (t : Bool). if t then [] else header ∷ rest) (le_test (rest_of header) (length rest) (omega arith))
 
--- the parts of a byte are those of its step
+-- the parts of a byte are its step's
 service_step : (service : Option ℕ) (byte : ℕ) (bytes : List ℕ) → step_parts (judge_service service byte) ++ service_parts service bytes ≡ service_parts service (byte ∷ bytes)
 service_step None byte bytes = refl
 service_step (Some service) byte bytes = refl

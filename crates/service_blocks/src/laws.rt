@@ -33,7 +33,7 @@ pub fn blocks_are_cut_in_one_way()
 {}
 
 /// After the header of a packet the bytes that are blocks are read, none is refused, and they make the bytes of services that the
-/// blocks say; and bytes of which none is refused are blocks.
+/// blocks say. Bytes of which none is refused are blocks.
 pub fn blocks_are_read()
     ensures read { (room : ℕ) (blocks : List Block) (bytes : List ℕ) → AreBlocks room blocks bytes
         → length bytes ≤ room

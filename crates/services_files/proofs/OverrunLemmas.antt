@@ -49,7 +49,7 @@ header_why : (gap : Bool) → step_why {P = BlockPart} (if gap then One part.Res
 header_why true = refl
 header_why false = refl
 
--- a byte after those of a packet overruns exactly where it passes the packet
+-- a byte after a packet's bytes overruns exactly where it passes the packet
 passes_of : (size : ℕ) (bytes : List ℕ) (front : Open) (byte left : ℕ) → IsBehind size bytes front → IsOverrun front (Byte byte left) → PassesPacket size bytes byte
 passes_of size bytes front byte left behind is =
     let item = is.is_byte in

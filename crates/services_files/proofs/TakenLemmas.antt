@@ -62,7 +62,7 @@ whole_triplets-append parts more = flat_map-append whole_triplet parts more
 one_more : (parts : List CdpPart) (p : CdpPart) → whole_triplets (parts ++ p ∷ []) ≡ whole_triplets parts ++ whole_triplet p
 one_more parts p = whole_triplets-append parts (p ∷ []) ∙ ap (λ ts. whole_triplets parts ++ ts) (append-nil (whole_triplet p))
 
--- each of the parts is heard after these triplets and those of the parts before it
+-- each of the parts is heard after these triplets and the earlier parts' triplets
 abbrev pub AreTaken : List Triplet → List CdpPart → Type 0
 AreTaken triplets [] = Unit {0}
 AreTaken triplets (p ∷ parts) = IsHeardBehind triplets (tried_at p) × AreTaken (triplets ++ whole_triplet p) parts

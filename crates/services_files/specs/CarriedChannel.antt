@@ -13,7 +13,7 @@ use Rattle.service_blocks.specs.ServiceBlocks.{Block}
 abbrev pub file_triplets : List Frame → List Triplet
 file_triplets frames = flat_map packet_triplets frames
 
--- the frames carry a caption channel: those of their triplets that count and are of kind 2 or 3 are channel packets, and the bytes
+-- the frames carry a caption channel: their triplets that count and are of kind 2 or 3 are channel packets, and the bytes
 -- of each of these are service blocks
 pub record CarryChannel (frames : List Frame) : Type 0 where
   pub packets : List ChannelPacket

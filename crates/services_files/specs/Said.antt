@@ -15,7 +15,7 @@ packets_started (triplet ∷ triplets) =
     if starts triplet then stretch_packet (record { first = triplet; more = take_while continues_packet triplets }) ∷ packets_started triplets
     else packets_started triplets
 
--- the channel packets of any triplets, where those of line 21 and those that don't count are left out
+-- the channel packets of any triplets, where line 21's and those that don't count are left out
 abbrev pub channel_packets_in : List Triplet → List ChannelPacket
 channel_packets_in triplets = packets_started (channel_triplets triplets)
 

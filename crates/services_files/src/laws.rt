@@ -29,7 +29,7 @@ ghost use Rattle.services_files.specs.Services.{services_say, tried_at, whole_tr
 ghost use Rattle.services_files.specs.CarriedChannel.{file_triplets};
 
 /// The services take a part exactly where the triplet that it tries is heard after the whole triplets before it. Parts that are
-/// all taken have whole triplets that are heard, and those of frames' parts are the frames' triplets.
+/// all taken have whole triplets that are heard, and the whole triplets of frames' parts are the frames' triplets.
 pub fn triplets_are_tried_and_taken()
     ensures taken { (before : List Part) (next : Part)
         → (services_say before next ≡ None)
@@ -46,8 +46,8 @@ pub fn filling_is_taken()
     ensures { TakesFilling services_say }
 {}
 
-/// The services take the parts of just those words files whose frames carry a caption channel, and they refuse the others for the reason
-/// for which a word of them offends: no part of a packet, no half of a triplet and no reader stands in this.
+/// The services take the parts of just those words files whose frames carry a caption channel. They refuse the others for the reason for
+/// which a word of them offends: no part of a packet, no half of a triplet and no reader stands in this.
 pub fn services_say_what_the_channel_is()
     ensures whole { (frames : List Frame) (bytes : List ℕ)
         → IsFileUnder (layers_of services_say) frames bytes
@@ -118,7 +118,7 @@ pub fn whole_files_are_caught()
         → (frames : List Frame) × IsFileUnder caption_channel frames bytes }
 {}
 
-/// What the readers of packets and of blocks make of any triplets, refused or not, is what the triplets say; and after others it is what
+/// What the readers of packets and of blocks make of any triplets, refused or not, is what the triplets say. After others it is what
 /// they say after these, which is all that they add. Triplets have the packets that are cut from them, a packet that is blocks has those
 /// that are cut from its bytes, and a caption channel says what its packets and blocks do.
 pub fn what_triplets_say_is_heard()
@@ -136,7 +136,7 @@ pub fn what_triplets_say_is_heard()
         → said_in triplets ≡ said None packets blocks }
 {}
 
-/// One more frame adds its events after those of the frames before it.
+/// One more frame adds its events after the earlier frames'.
 pub fn events_come_frame_by_frame()
     ensures { (service : ℕ) (frames : List Frame) (frame : Frame)
         → service_events service (frames ++ frame ∷ [])

@@ -149,7 +149,7 @@ module _ (rate : Rate) (columns : Columns) (has : (frame : ℕ) → HasBlocks co
   parts_from frame zero = []
   parts_from frame (suc n) = parts_sent (has frame).sent ++ parts_from (suc frame) n
 
-  -- the triplets of channel packets of frames are those of the first one and of the others
+  -- the triplets of channel packets of frames are the first one's and the others'
   first_channel : (frame n : ℕ) → channel_triplets (file_triplets (column_packets rate columns frame (suc n)))
       ≡ channel_packet_of columns frame ++ channel_triplets (file_triplets (column_packets rate columns (suc frame) n))
   first_channel frame n =

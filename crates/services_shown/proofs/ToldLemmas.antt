@@ -113,7 +113,7 @@ module _ (rate : Rate) (columns : Columns) (has : (frame : ℕ) → HasBlocks co
       ∙ ap (λ es. told_before ++ es) (frame_events-heard service (file_triplets frames) packet)
       ∙ ap (λ es. told_before ++ (Tick rate ∷ es)) (ap (events_of service) (heard_next since n last refl) ∙ sent_told service (has last).sent)
 
--- from frame 0 on that is what is told in the first frames
+-- from frame 0 on that is what the first frames say
 told_first : (rate : Rate) (bytes : ℕ → List ℕ) (n : ℕ) → told_since rate bytes 0 n ≡ told rate bytes n
 told_first rate bytes zero = refl
 told_first rate bytes (suc n) =
@@ -125,7 +125,7 @@ columns_told rate columns n has service k below =
     ap (service_events service) (take_packets rate columns 0 n k below) ∙ since_told rate columns has service 0 k
     ∙ told_first rate (λ frame. sent_to service (has frame).sent) k
 
--- what is told where the same bytes are sent
+-- what is said where the same bytes are sent
 pub told_same : (rate : Rate) (sent other : ℕ → List ℕ) → ((frame : ℕ) → sent frame ≡ other frame) → (n : ℕ) → told rate sent n ≡ told rate other n
 told_same rate sent other same zero = refl
 told_same rate sent other same (suc n) =

@@ -31,7 +31,7 @@ pub record IsDelaySent (rate : Rate) (window : WinCue) (cue : Cue) (sent : ℕ �
   -- at SHOW: no DisplayWindows that names the window
   pub shows_none : (commands : List Command) × IsCut commands [] (sent cue.show) × All (λ command. shows window.id command ≡ false) commands
 
--- so is that of each window cue of a list that has one
+-- so is the delay of each window cue of a list that has one
 abbrev pub AreDelaysSent : Listing → Placement → Type 0
 AreDelaysSent list placed = (cue : Cue) (window : WinCue) → Contains list.cues cue → cue.kind ≡ Win window → 0 < window.delay
     → IsDelaySent list.rate window cue (service_bytes list window.service (placed (Service window.service)))

@@ -5,6 +5,6 @@ use Rattle.line21_shown.specs.Listing.{Listing}
 use Rattle.line21_shown.specs.Lane.TheVariants.{Service}
 use Rattle.frame_carrier.specs.Planned.{IsLanePlaced, Placement}
 
--- those of each service stand in the earliest frames in which its lane allows them
+-- the units of each service stand in the earliest frames in which its lane allows them
 abbrev pub AreServicesPlaced : Listing → Placement → Type 0
 AreServicesPlaced list placed = (service : ℕ) → IsLanePlaced list (Service service) (placed (Service service))

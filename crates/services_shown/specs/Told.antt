@@ -1,5 +1,5 @@
 -- Believed in part: the program's answer stands on some of these definitions.
--- What the services of a caption channel are told by frames: in each a tick of the frame's rate, then the bytes that the service is sent
+-- What frames say to the services of a caption channel: in each a tick of the frame's rate, then the bytes that the service is sent
 -- there, and no reset. What else the frames carry says nothing to them.
 use Rattle.std.specs.Prelude.{◌≡◌, ℕ, zero, suc, ◌+◌, ◌<◌, ◌≤◌, ◌==◌, if◌then◌else◌, List, [], ◌∷◌, ◌++◌, None, map, take}
 use Rattle.std.specs.List.{flat_map}

@@ -13,7 +13,7 @@ ghost use Rattle.services_shown.specs.ServicesCarried.{FramesHaveRoom, Programme
 ghost use Rattle.services_shown.specs.Told.{ColumnsAreTold, HighAreUnshared, LikeFramesSayAlike, ServicesAreTold, UnsharedAreSilent};
 
 /// Each frame of a list that keeps the rules has room for its pairs and for its channel packet, in which a service has at most
-/// its share: blocks with their headers have at most 35 bytes, and 17 at 59.94 and 60 frames a second; and its blocks are bytes.
+/// its share. Blocks with their headers have at most 35 bytes, and 17 at 59.94 and 60 frames a second; and its blocks are bytes.
 pub fn law_of_frame_room()
     ensures { FramesHaveRoom }
 {}
@@ -42,12 +42,12 @@ pub fn law_of_silent_services()
 {}
 
 /// What services get, and what pairs the fields have, rests on the rate and the triplets of each frame and on nothing else of its
-/// packet: so captions say the same in packets of another origin.
+/// packet. So captions say the same in packets of another origin.
 pub fn law_of_like_frames()
     ensures { LikeFramesSayAlike }
 {}
 
-/// No byte of the frames of a placed list that keeps the rules fills the buffer of a service: at every byte of every service at
+/// No byte of the frames of a placed list that keeps the rules fills the buffer of a service. At every byte of every service at
 /// most 127 bytes are held, with any number of delays.
 pub fn law_of_listed_buffers()
     ensures { (list : Listing) (placed : Placement) → IsFormed list → IsRuled list
@@ -55,7 +55,7 @@ pub fn law_of_listed_buffers()
         → BuffersNeverFill (column_packets list.rate (columns_of list placed) 0 list.frames) }
 {}
 
-/// What is authored is what is seen: at every frame of a placed list that keeps the rules each service shows just the windows
+/// What is authored is what is seen. At every frame of a placed list that keeps the rules each service shows just the windows
 /// that the list authors there, with any number of delays; one without cues shows nothing.
 pub fn law_of_listed_windows()
     ensures { (list : Listing) (placed : Placement) → IsFormed list → IsRuled list

@@ -54,7 +54,7 @@ is_of_day t day =
     let h = day.h in let m = day.m in let s = day.s in let f = day.f in let stands = day.stands in
     grind (arith, common_steps)
 
--- the numbers of a time code of the day are those of its place
+-- the numbers of a time code of the day are its place's
 pub code_again : (t : TimeCode) → IsOfDay t → t ≡ time_code_at t.drop_frame (counted_place t)
 code_again t day =
     let h : counted_place t / 108000 ≡ t.h = omega (arith, day.h, day.m, day.s, day.f) in

@@ -10,8 +10,8 @@ use cc_base::Why;
 /// The frame of the day that a time code names, counted from 0 at 00:00:00:00 (SMPTE ST 12-1): how many time codes of the day
 /// stand before it. The count says whether there is drop frame, whatever the time code's mark.
 ///
-/// NoSuchTime comes exactly where no frame has the time code: hours above 23, minutes or seconds above 59, frames not below those
-/// of a second, or one that drop frame leaves out.
+/// NoSuchTime comes exactly where no frame has the time code: hours above 23, minutes or seconds above 59, frames not below the
+/// number in a second, or a time code that drop frame leaves out.
 pub fn frame_in(count: Counting, t: TimeCode) -> Result<u32, Why>
     ensures { result ≡ frame_in count t }
 {

@@ -54,7 +54,7 @@ delay_acts (Some c) s = dsw_acts (windows_byte (λ id. c.id == id)) s
 abbrev pub AreLoads : List (ServiceChunk × ℕ) → List CaptionLoad → Type 0
 AreLoads placed gs = (frame : ℕ) (s : ScreenState) → acted_on (loads_at placed frame) s ≡ loads_act frame gs s
 
--- so the screen of what is heard of the lane before a frame is that of the captions
+-- so the screen of what is heard of the lane before a frame is the captions' screen
 pub undelayed_is : (since : ℕ) (rate : Rate) (placed : List (ServiceChunk × ℕ)) (gs : List CaptionLoad) → AreLoads placed gs → (frame : ℕ)
     → undelayed (heard_lane since (lane_of rate (captions gs) placed)) frame ≡ screen_from since gs frame
 undelayed_is since rate placed gs loads zero = refl

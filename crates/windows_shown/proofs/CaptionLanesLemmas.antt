@@ -36,7 +36,7 @@ use Rattle.windows_shown.proofs.PlainLemmas.{nothing_plain, plain_both}
 use Rattle.windows_shown.proofs.UnitLemmas.{units_plain}
 use Rattle.windows_shown.proofs.WrittenLemmas.{dlw_plain, dsw_plain}
 
--- the bytes of the lane are those of the service
+-- the bytes of the lane are the service's bytes
 pub lane_bytes_are : (rate : Rate) (cs : List Caption) (placed : List (ServiceChunk × ℕ)) (frame : ℕ)
     → lane_frame_bytes (lane_of rate cs placed) frame ≡ bytes_in cs placed frame
 lane_bytes_are rate cs placed frame =
@@ -187,7 +187,7 @@ captions_sound rate frames cs placed kept = record {
   budget = λ start delay is. let none = none_spent (lane_of rate cs placed) start (delay.ends - start) in omega (arith, none);
 }
 
--- its delays end where those of the captions do
+-- its delays end where the captions' do
 ends_are : (rate : Rate) (cs : List Caption) → delay_end cs ≡ delay_ends (lane_of rate cs [])
 ends_are rate cs = fun_ext (λ start. at (delayed_at start cs))
   where

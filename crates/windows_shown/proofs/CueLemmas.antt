@@ -76,11 +76,11 @@ module _ (rate : Rate) (service : ℕ) where
   Others number cues = (left : List ℕ) → AreTimely (service_chunks_from rate service number cues) left
       → Loads (service_captions rate service cues) (service_chunks_from rate service number cues) left (λ id frame. authored_windows service cues frame id)
 
-  -- the units of a cue, with this caption and these commands, before those of later cues
+  -- the units of a cue, with this caption and these commands, before the units of later cues
   abbrev units : ℕ → Option Caption → List Command → List Cue → List ServiceChunk
   units number c commands cues = chunks_with number c (map bytes_of_command commands) ++ service_chunks_from rate service (suc number) cues
 
-  -- the captions with that of a cue before them, which uses these windows
+  -- the captions with a cue's before them, which uses these windows
   abbrev WithCue : ℕ → Cue → List Cue → List ℕ → Option Caption → List Command → (ℕ → Bool) → Type 0
   WithCue number cue cues fs c commands uses =
       Loads (cons_option c (service_captions rate service cues)) (units number c commands cues) fs

@@ -127,7 +127,7 @@ shown_says frame c test =
 pub shown_holds : (frame : ℕ) (c : Caption) → c.tenths ≡ 0 → c.starts ≡ frame → is_shown_at frame c ≡ true
 shown_holds frame c none is = grind (arith, nat_tests)
 
--- the delay that starts in a frame is that of the caption that is delayed there
+-- the delay that starts in a frame is the delay of the caption that is delayed there
 pub delayed_is : (rate : Rate) (frames frame : ℕ) (gs : List CaptionLoad) (g : CaptionLoad) → AreKept rate frames (captions gs) → Among g gs
     → is_delayed_at frame g.caption ≡ true → delayed_at frame (captions gs) ≡ Some g.caption
 delayed_is rate frames frame [] g kept among holds = absurd among

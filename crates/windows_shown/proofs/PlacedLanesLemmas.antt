@@ -1,4 +1,4 @@
--- A placed lane is sound: its loads are plain, and those of a delay have at most 125 bytes.
+-- A placed lane is sound: its loads are plain, and a delay's have at most 125 bytes.
 use Rattle.std.proofs.Common.{◌≡◌, ℕ, zero, suc, ◌+◌, ◌-◌, ◌<◌, ◌≤◌, ◌==◌, Bool, true, false, if◌then◌else◌, List, [], ◌∷◌, ◌++◌, length, length-append, refl, sym, ap, ◌∙◌, arith}
 use Rattle.std.specs.Prelude.{All, option_map}
 use Rattle.std.specs.List.{zip}

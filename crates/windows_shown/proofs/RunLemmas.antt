@@ -37,13 +37,13 @@ abbrev pub with_runs : ℕ → List Run → Cells → Cells
 with_runs style [] cells = cells
 with_runs style (run ∷ runs) cells = with_runs style runs (with_run style run cells)
 
--- a run without colours of its own has those of the style
+-- a run without colours of its own has the style's
 unowned : (own : Option PenColors) (style : PenColors) → is_some own ≡ false → unwrap_or own style ≡ style
 unowned None style none = refl
 unowned (Some colors) style none = cc
 
--- after the commands of colours the pen has the run's: they are sent where some run has its own, and else the pen has those of the
--- style already
+-- after the commands of colours the pen has the run's: they are sent where some run has its own, and else the pen has the style's
+-- already
 colors_on : (coloured : Bool) (style : PenColors) (own : Option PenColors) (d : Definition) (attributes : WinAttr) (cells : Cells) (row col : ℕ)
     (pen : PenAttr) (colors : PenColors) → (coloured ≡ false → colors ≡ style) → (coloured ≡ false → is_some own ≡ false)
     → edited_all (color_commands coloured style own) (hidden d attributes cells row col pen colors)

@@ -135,7 +135,7 @@ windows_are_heard list share service since placed formed ruled is frame id low s
     (seen_at since list.rate list.frames all.loads (zip chunks placed) own all.order all.acts own_sound frame id low small)))
     kept sound up
 
--- so those of one of which all is heard
+-- so are the windows of a service of which all is heard
 pub windows_are_shown : (list : Listing) (share service : ℕ) (placed : List ℕ) → IsFormed list → IsRuled list
     → IsPlaced (caption_lane share (service_captions list.rate service list.cues)) [] (service_chunks list.rate service list.cues) placed
     → (frame id : ℕ) → id < 8

@@ -45,7 +45,7 @@ loading_append : (commands more : List Command) → AreLoading commands → AreL
 loading_append [] more all too = too
 loading_append (command ∷ commands) more all too = (all.0, loading_append commands more all.1 too)
 
--- those of a window's attributes, of a run, of a window and of a cue
+-- the commands of a window's attributes, of a run, of a window and of a cue
 attributes_loading : (attributes : Option WinAttr) → AreLoading (attribute_commands attributes)
 attributes_loading None = tt
 attributes_loading (Some attributes) = (refl, tt)

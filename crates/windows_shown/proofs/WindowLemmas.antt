@@ -170,7 +170,7 @@ module _ (rate : Rate) (frames : ℕ) (gs : List CaptionLoad) (kept : AreKept ra
                   let both : true ≡ false = sym there ∙ not_there in cc)
             ])
 
-    -- that of a caption which is loading, or is shown, stays
+    -- the window of a caption which is loading, or is shown, stays
     stays : (g : CaptionLoad) → Among g gs → g.caption.id ≡ id → g.caption.load < frame → frame < g.caption.hide → Hidden ≡ w
     stays g among window from to = ap (λ (b : Bool). if_hidden b w) (not_hidden id frame g among window from to)
 

@@ -13,7 +13,7 @@ use Rattle.frame_scheduler.specs.Chunks.{ServiceChunk}
 use Rattle.frame_scheduler.specs.ServiceBytes.{loads_at}
 use Rattle.windows_shown.specs.ServiceLanes.{Lane}
 
--- the bytes that hide windows and show them in a frame, without those of a delay
+-- the bytes that hide windows and show them in a frame, without a delay's bytes
 abbrev pub plain_events : ℕ → List Caption → List ℕ
 plain_events frame cs = flat_map bytes_of_command (windows_command Dlw (is_hidden_at frame) cs ++ windows_command Dsw (is_shown_at frame) cs)
 

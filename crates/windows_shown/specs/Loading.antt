@@ -1,5 +1,5 @@
 -- Between crates: the program's answer stands on none of these definitions.
--- What the commands that load a window make of it (CTA-708-E, DefineWindow, SetWindowAttributes, and those of pens and text).
+-- What the commands that load a window make of it (CTA-708-E, DefineWindow, SetWindowAttributes, and the commands of pens and text).
 use Rattle.std.specs.Prelude.{◌≡◌, true, false, List, [], ◌∷◌, Option, Some, None, option_map}
 use Rattle.std.specs.List.{AllByRecursion}
 use Rattle.dtvcc_codes.specs.declared.commands.Command.{Command}

@@ -10,7 +10,7 @@ ghost use Rattle.frame_scheduler.specs.Planned.{IsListPlaced, Placement};
 ghost use Rattle.windows_shown.specs.AuthoredShown.{IsServicePlaced, ShowsAuthored, list_lane};
 ghost use Rattle.windows_shown.specs.Examples.{cell_seen, delayed_frames, delayed_list, is_seen};
 
-/// What is authored is what is seen: in a list that is in form and keeps the rules, a service whose units stand anywhere that
+/// What is authored is what is seen. In a list that is in form and keeps the rules, a service whose units stand anywhere that
 /// its lane allows shows at every frame just the authored windows, with any number of delays. A service without cues shows
 /// nothing.
 pub fn authored_windows_are_seen()
@@ -29,8 +29,8 @@ pub fn windows_with_a_delay_are_placed()
     ensures placed { IsServicePlaced delayed_list 1 delayed_frames }
 {}
 
-/// What is sent of it, and what is seen, worked out by hand: each window from its SHOW up to its HIDE and in no other frame,
-/// after its delay too, and one that was loaded while the delay was on.
+/// What is sent of it, and what is seen, worked out by hand. Each window is shown from its SHOW up to its HIDE and in no
+/// other frame, after its delay too, and so is one that was loaded while the delay was on.
 pub fn windows_with_a_delay_are_seen()
     ensures shows { lane_frame_bytes (list_lane delayed_list 1 delayed_frames) 4
         ≡ 0x89 ∷ 0x01 ∷ 0x92 ∷ 0 ∷ 0 ∷ 0x90 ∷ 0x05 ∷ 0 ∷ [] }

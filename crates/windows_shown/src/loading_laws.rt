@@ -39,8 +39,8 @@ pub fn commands_are_writable()
     ensures { (cue : Cue) → IsCueFormed cue → All IsWritable (commands_of cue) }
 {}
 
-/// The windows of a list as its commands make them, worked out by hand: the first has attributes of its own, runs in colours and
-/// in italics, and nothing between them; the second has those of its styles.
+/// The windows of a list as its commands make them, worked out by hand. The first has attributes of its own, runs in colours and
+/// in italics, and nothing between them. The second has its styles' attributes and colours.
 pub fn loaded_windows_by_hand()
     ensures coloured { option_and_then (λ w. w.cells 0 1) (nth_loaded 0) ≡ cell 73 false yellow }
     ensures between { option_and_then (λ w. w.cells 0 3) (nth_loaded 0) ≡ None }

@@ -55,9 +55,9 @@ pub fn law_of_placed_lanes()
         (lane_frame_events all frame) }
 {}
 
-/// The lane of a service's captions gives each frame the bytes of the service; where the captions keep the rules and the cues
-/// are in their ranges it is sound without its units, these are plain and whole, and it is sound with them, wherever they stand
-/// that it allows.
+/// The lane of a service's captions gives each frame the bytes of the service. Where the captions keep the rules and the cues
+/// are in their ranges it is sound without its units, and these are plain and whole. It is sound with them too, wherever they
+/// stand that it allows.
 pub fn law_of_caption_lanes()
     ensures bytes { (rate : Rate) (cs : List Caption) (placed : List (ServiceChunk × ℕ)) (frame : ℕ)
         → lane_frame_bytes (lane_of rate cs placed) frame ≡ bytes_in cs placed frame }

@@ -114,7 +114,7 @@ pub nothing_ended : (reading : Frames PacketLines) (reader : XdsReader) → HasR
 nothing_ended reading reader received is read =
     nothing_judged (texts_behind next_packets []) _ [] reading received (subst (λ (m : PacketLines). HasRead [] m.reader) (sym is) read) refl
 
--- all packets are those of the frames
+-- all packets are the frames' packets
 packets_are : (before frames : List Frame) → packets_in before frames ≡ ended_in (received_pairs Two before) (received_pairs Two frames)
 packets_are before [] = refl
 packets_are before (frame ∷ frames) =

@@ -24,6 +24,6 @@ next_concealed before frame =
     let frames = before ++ frame ∷ [] in
     lost_line (missing_before frames) (number_of_last frames) ++ changes_text (number_of_last frames) (concealed_screens before) (concealed_screens frames)
 
--- `conceal` puts those of each frame, and then the number of frames that came
+-- `conceal` puts the changes of each frame, and then the number of frames that came
 abbrev pub conceal_output : List Frame → List ℕ
 conceal_output frames = counted next_concealed frames

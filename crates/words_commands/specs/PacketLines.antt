@@ -27,7 +27,7 @@ frame_packets before frame =
 abbrev pub next_packets : List Frame → Frame → List ℕ
 next_packets before frame = flat_map (packet_line (length before)) (frame_packets before frame)
 
--- `xds-show` puts those of each frame, and then the number of frames
+-- `xds-show` puts the lines of each frame, and then the number of frames
 abbrev pub xds_show_output : List Frame → List ℕ
 xds_show_output frames = counted next_packets frames
 

@@ -12,8 +12,8 @@ abbrev pub texts_behind : (List Frame → Frame → List ℕ) → List Frame →
 texts_behind text_of before [] = []
 texts_behind text_of before (frame ∷ frames) = text_of before frame ++ texts_behind text_of (before ++ frame ∷ []) frames
 
--- the changed screens of a frame against those of the frames before it; before the first frame of all, every screen is empty and no
--- window is shown
+-- the changed screens of a frame against the previous frame's; before the first frame of all, every screen is empty and no window is
+-- shown
 abbrev pub next_changes : List Frame → Frame → List ℕ
 next_changes before frame = changes_text (length before) (received_screens before) (received_screens (before ++ frame ∷ []))
 

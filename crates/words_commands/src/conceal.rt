@@ -12,9 +12,9 @@ use grid_print::Shown;
 use std::alloc::Global;
 use words_reading::read_words;
 
-/// Reads a words file from which frames may be missing, or in which bytes of line 21 have bad parity. Puts of each frame how many
-/// are missing before it, if some are, and the screens that changed, with the number of the frame by the counters; and after the last
-/// one the number of frames that came.
+/// Reads a words file from which frames may be missing, or in which bytes of line 21 have bad parity. Puts of each frame how many are
+/// missing before it, if some are, and the screens that changed, with the number of the frame by the counters. After the last one it
+/// puts the number of frames that came.
 pub fn run_conceal<M: Source, O: Sink>(alloc: Global, input: &mut M, out: &mut O) -> Status
     ensures { RealisesLeaving (ChangesVerdict next_concealed)
         (ends (M.left input.old) (M.faults input.old) (O.written out.old) (O.faults out.old))

@@ -83,7 +83,7 @@ handed-cons parts frames =
     ap (λ (f : List (List CdpPart)). flat_map (λ ps. ps) f) (reverse-append (parts ∷ []) frames)
     ∙ flat_map-append (λ ps. ps) (reverse frames) (parts ∷ []) ∙ ap (λ ps. handed frames ++ ps) (append-nil parts)
 
--- those of frames of a file
+-- the parts of a file's frames
 pub handed-packets : (frames : List Frame) → handed (reverse (map packet_parts frames)) ≡ flat_map packet_parts frames
 handed-packets frames =
     ap (λ (f : List (List CdpPart)). flat_map (λ ps. ps) f) (reverse-reverse (map packet_parts frames))

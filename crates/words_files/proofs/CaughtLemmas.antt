@@ -24,7 +24,7 @@ use Rattle.words_files.specs.Offences.{IsFileUnder}
 use Rattle.words_files.specs.Verdicts.{layers_of}
 use Rattle.words_files.proofs.CatchingLemmas.{accepted_behind, behind_accepted, caught_read, foreign_users, handed, handed-cons, idle, lows, open_of, opened, read_caught, unrefused_before, unrefused_first, users_caught, users_kept}
 
--- the identifiers are those of captions
+-- the identifiers are a caption packet's
 abbrev pub has_captions : ℕ → ℕ → Bool
 has_captions did sdid = (did == 0x61) && (sdid == 0x01)
 

@@ -103,7 +103,7 @@ last_of p (q ∷ packets) bytes is =
       is_packet = last.is_packet;
     }
 
--- the frames of packets, and those of packets after them
+-- the frames of packets, and of packets after them
 pub record Carries (packets rest : List AncillaryPacket) (frames : List Frame) : Type 0 where
   pub first : List Frame
   pub behind : List Frame
@@ -163,7 +163,7 @@ shorter qs os earlier q e z other rest more spelled any file is longer whole =
           let long = ap length no in absurd (omega (arith, long, any))
     ]
 
--- the frames before the last packet are those of the packets before it
+-- the frames before the last packet are the frames of the packets before it
 before_last : (v : Verdict CdpPart) (first : List Frame) (qs earlier : List AncillaryPacket) (q : AncillaryPacket) (e some before more : List ℕ) → qs ≡ earlier ++ q ∷ []
     → 0 < length more → IsFileUnder (layers_of v) first e → IsWordsFile earlier e → before ≡ e ++ some → IsWordsFile qs (before ++ more) → AreFramesOf (layers_of v) first before
 before_last v first qs earlier q e some before more spelled any file earlier_file parted whole = record {

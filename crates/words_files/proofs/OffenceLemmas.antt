@@ -129,7 +129,7 @@ high_read v before high rest whole =
 pub high_unrefused : (v : Verdict CdpPart) (before : List ℕ) (high : ℕ) → AreWholeWords before → refusal_of v before ≡ None → refusal_of v (before ++ high ∷ []) ≡ None
 high_unrefused v before high whole none = read-more v before (high ∷ []) none ∙ high_read v before high [] whole
 
--- the place of a word's low byte is that of its high byte
+-- the place of a word's low byte is its high byte's place
 place-low : (before : List ℕ) (high : ℕ) → AreWholeWords before → place_by 2 (before ++ high ∷ []) ≡ length before % 2 ^ 64
 place-low before high whole =
     let even : (n : ℕ) → n % 2 ≡ 0 → (n + 1) % 2 ^ 64 - (n + 1) % 2 ^ 64 % 2 ≡ n % 2 ^ 64 = λ n is. omega arith in
@@ -227,7 +227,7 @@ begins_under_never : (v : Verdict CdpPart) (bytes : List ℕ) → Begins (layers
 begins_under_never v bytes begins =
     record { more = begins.more; frames = begins.frames; is_file = file_under_never begins.frames (bytes ++ begins.more) begins.is_file.file }
 
--- the reason of a word that is refused is that of whatever bytes continue with it
+-- the reason of a word that is refused stays, whatever bytes continue with it
 reason_stays : (v : Verdict CdpPart) (before : List ℕ) (high low : ℕ) (more : List ℕ) (why : Why) → AreWholeWords before → refusal_of v before ≡ None
     → reason_of v before (256 * high + low) ≡ Some why → why_of (refusal_of v (before ++ high ∷ low ∷ more)) ≡ Some why
 reason_stays v before high low more why whole none reason =
@@ -257,7 +257,7 @@ reason_is v before high low why are whole begins reason =
           (λ more frames file. file_refused v frames (before ++ high ∷ low ∷ more) why file (reason_stays v before high low more why whole none reason))
     ] in cases _ refl
 
--- a refusal is that of the first offending word
+-- bytes are refused at the first offending word
 pub refused_offends : (v : Verdict CdpPart) → TakesFilling v → (bytes : List ℕ) (refusal : Refusal) → All (λ byte. byte < 256) bytes
     → refusal_of v bytes ≡ Some refusal → FirstOffendingWord (layers_of v) bytes refusal
 refused_offends v takes bytes refusal are some =

@@ -1,5 +1,5 @@
 -- Believed: the program's answer stands on these definitions.
--- The words that carry a distribution packet (SMPTE ST 334-2): those of an ancillary packet of captions (SMPTE ST 334-1). And the
+-- The words that carry a distribution packet (SMPTE ST 334-2): the words of an ancillary packet of captions (SMPTE ST 334-1). And the
 -- distribution packet of triplets alone.
 use Rattle.std.specs.Prelude.{ℕ, ◌%◌, List, [], ◌∷◌}
 use Rattle.std.specs.List.{concat}

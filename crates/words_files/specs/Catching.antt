@@ -1,8 +1,8 @@
 -- Believed in part: the library's answers stand on some of these definitions.
--- What becomes of the parts of ancillary packets (SMPTE ST 291-1, ST 334-1): a packet of captions carries a distribution
--- packet (SMPTE ST 334-2), whose length is the count and whose bytes are the low bits of the user words. It is a frame once
--- its checksum word has come, and other packets change nothing. The layers above judge the parts of distribution packets, all
--- those of the file one after another.
+-- What becomes of the parts of ancillary packets (SMPTE ST 291-1, ST 334-1). A packet of captions carries a distribution packet
+-- (SMPTE ST 334-2), whose length is the count and whose bytes are the low bits of the user words. It is a frame once its checksum
+-- word has come, and other packets change nothing. The layers above judge the parts of distribution packets, all the file's one
+-- after another.
 use Rattle.std.specs.Prelude.{ℕ, ◌%◌, ◌==◌, ◌&&◌, not, nat_le, if◌then◌else◌, Bool, List, [], ◌∷◌, ◌++◌, reverse, Option, Some, None}
 use Rattle.std.specs.List.{flat_map}
 use Rattle.cc_base.specs.declared.refusal.Refusal.{Refusal}
@@ -115,7 +115,7 @@ caught_in verdict bytes = caught_of verdict (read_under anc_syntax 2 (caption_ve
 abbrev pub refusal_of : Verdict CdpPart → List ℕ → Option Refusal
 refusal_of verdict bytes = (read_under anc_syntax 2 (caption_verdict verdict) bytes).refusal
 
--- why a word is refused after these bytes, if it is: its own reason, in the order high bits, flag, word parity, checksum; else that of
+-- why a word is refused after these bytes, if it is: its own reason, in the order high bits, flag, word parity, checksum; else the reason of
 -- the layer above whose field it carries
 abbrev pub reason_of : Verdict CdpPart → List ℕ → ℕ → Option Why
 reason_of verdict before word =

@@ -31,7 +31,7 @@ abbrev pub CaptionCountIsNext : List ℕ → Type 0
 CaptionCountIsNext (first ∷ second ∷ third ∷ did ∷ sdid ∷ []) = (did % 256 ≡ 0x61) × (sdid % 256 ≡ 0x01)
 CaptionCountIsNext _ = ⊥
 
--- these words are those of a packet of captions, which carry the first bytes of a distribution packet of this length; more of its
+-- these words are of a packet of captions, and carry the first bytes of a distribution packet of this length; more of its
 -- bytes are to come
 abbrev pub CaptionCarries : List ℕ → ℕ → List ℕ → Type 0
 CaptionCarries (first ∷ second ∷ third ∷ did ∷ sdid ∷ count ∷ user) size bytes =

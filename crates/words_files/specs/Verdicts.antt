@@ -1,5 +1,5 @@
 -- Between crates: the program's answer stands on none of these definitions.
--- Layers that judge the parts of distribution packets, one after another, all those of a file.
+-- Layers that judge the parts of distribution packets, one after another, all of a file's.
 use Rattle.std.specs.Prelude.{◌≡◌, ℕ, List, [], ◌∷◌, ◌++◌, Some, None}
 use Rattle.std.specs.List.{All, flat_map}
 use Rattle.cc_base.specs.declared.why.Why.{Why}

@@ -32,8 +32,8 @@ pub fn files_are_joined()
         → IsFileOf (frames ++ others) (bytes ++ more) }
 {}
 
-/// Bytes have one list of frames, that of the longest file with which they begin; more bytes bring these frames and more; and
-/// their parts are what is caught of the bytes, up to the first refused word.
+/// Bytes have one list of frames, the list of the longest file with which they begin; more bytes bring these frames and more.
+/// Their parts are what is caught of the bytes, up to the first refused word.
 pub fn bytes_have_one_list_of_frames()
     ensures some { (verdict : Verdict Part) (bytes : List ℕ) → All (λ byte. byte < 256) bytes
         → (frames : List Frame) × AreFramesOf (layers_of verdict) frames bytes }
@@ -81,7 +81,7 @@ pub fn files_begin_with_their_first_bytes()
         → Begins (layers_of verdict) (bytes ++ more) → Begins (layers_of verdict) bytes }
 {}
 
-/// A word offends where no file can continue with it: bytes are refused exactly where they have an offending word, at the place of
+/// A word offends where no file can continue with it. Bytes are refused exactly where they have an offending word, at the place of
 /// the first and for its reason, and they aren't refused exactly where no word of them offends.
 pub fn first_offence_exact()
     ensures refused { (verdict : Verdict Part) → TakesFilling verdict
@@ -153,7 +153,7 @@ pub fn no_layer_above_takes_all()
 {}
 
 /// A word after bytes none of whose words is refused, which offends by the words of its packet, is refused for this reason, whatever
-/// the layers above say; where these refuse no part, it is refused for no other; and there is one such reason.
+/// the layers above say. Where these refuse no part, it is refused for no other; and there is one such reason.
 pub fn reasons_stand_at_their_words()
     ensures given { (verdict : Verdict Part) (before : List ℕ) (word : ℕ) (reason : Reason)
         → refusal_of verdict before ≡ None
@@ -179,7 +179,7 @@ pub fn the_reader_keeps_the_open_words()
 {}
 
 /// After words with which a file begins, a word with which none goes on is refused for the reason for which it offends, by the words of
-/// its packet or for the layers above; and by the words of its packet where these refuse no part.
+/// its packet or for the layers above. It is refused by the words of its packet where these refuse no part.
 pub fn words_are_refused_for_their_reasons()
     ensures reason { (verdict : Verdict Part) (before : List ℕ) (high low : ℕ) (reason : Reason)
         → All (λ byte. byte < 256) (before ++ high ∷ low ∷ []) → AreWholeWords before

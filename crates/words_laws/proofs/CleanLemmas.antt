@@ -39,7 +39,7 @@ use Rattle.words_files.specs.Received.{received_at, received_grids}
 use Rattle.words_laws.proofs.FilledLemmas.{none_filled}
 use Rattle.words_laws.proofs.SeenLemmas.{front_is}
 
--- the packet after this many is that of its frame
+-- the packet after this many is its frame's packet
 packet_at : (rate : Rate) (columns : Columns) (frame n : ℕ) (earlier : List Frame) (last : Frame) (later : List Frame) (number : ℕ)
     → column_packets rate columns frame n ≡ earlier ++ last ∷ later → number ≡ frame + length earlier
     → last ≡ frame_packet rate number (columns number) (channel_packet_of columns number)

@@ -1,5 +1,5 @@
--- A receiver that is fed the words that were built, those of two lists, or words into which captions were inserted, shows what was
--- authored.
+-- A receiver that is fed the words that were built, the words of two lists, or words into which captions were inserted, shows what
+-- was authored.
 use Rattle.std.proofs.Common.{◌≡◌, ◌∙◌, ◌++◌, ◌∷◌, ◌+◌, ◌<◌, false, add-one, ap, append_assoc, arith, length, length-append, refl, subst, suc, sym, take, ℕ, List, []}
 use Rattle.std.proofs.lemmas.List.{take-append-le, take_all}
 use Rattle.cdp_packets.specs.Packets.{Frame}
@@ -49,7 +49,7 @@ pub front_is : (packets frames behind : List Frame) (n : ℕ) → packets ≡ fr
 front_is packets frames behind n is count =
     ap (take n) is ∙ take-append-le n frames behind (omega arith) ∙ take_all n frames (omega arith)
 
--- a receiver that was fed these words shows at a frame the grid of each channel for which it is told, and the windows of each service,
+-- a receiver that was fed these words shows at a frame the grid of each channel for which it is known, and the windows of each service,
 -- and no buffer of a service was filled
 record IsSeenAs (IsTold : Telling) (grids : Grids) (windows : WindowsShown) (frame : ℕ) (words : List ℕ) (receiver : Receiver) : Type 0 where
   screens : (chan : Chan) → IsTold chan frame → displayed_grid receiver chan ≡ grids chan frame

@@ -5,31 +5,32 @@ ghost use Rattle.words_laws.specs.SeenAgain.{AllFramesAreBuilt, BuiltWordsAreSee
 ghost use Rattle.words_laws.specs.Earlier.{EarlierWordsStay};
 ghost use Rattle.words_laws.specs.Verified.{BuiltWordsAreVerified, XdsWordsAreVerified};
 
-/// The law that what is authored is what is seen: a receiver that was fed any front of the words that `build` puts of an accepted
-/// cue list, cut anywhere, shows the authored grids of the last frame that it counts, wherever that is settled, and of each service
-/// the authored windows; and no service's buffer was filled.
+/// The law that what is authored is what is seen. A receiver that was fed any front of the words that `build` puts of an accepted
+/// cue list, cut anywhere, shows the authored grids of the last frame that it counts, wherever that is settled. It shows the
+/// authored windows of each service, and no service's buffer was filled.
 pub fn built_words_are_seen()
     ensures { BuiltWordsAreSeen }
 {}
 
-/// The law that so it is seen beside packets of extended data: a receiver that was fed any front of the words that `xds` puts of an accepted
-/// cue list with good packets beside whose captions they have room, cut anywhere, shows what is authored at the last frame that it counts;
-/// and no service's buffer was filled.
+/// The law that so it is seen beside packets of extended data. Let a receiver be fed any front, cut anywhere, of the words that `xds` puts
+/// of an accepted cue list with good packets beside whose captions they have room. It shows what is authored at the last frame that it
+/// counts; and no service's buffer was filled.
 pub fn xds_words_are_seen()
     ensures { XdsWordsAreSeen }
 {}
 
-/// The law that so it is seen where it is inserted: a receiver that was fed any front of what `insert` puts of a words file with the
-/// captions of an accepted cue list, cut anywhere, where the file's frames have the list's rate and are as many as it has, at least,
-/// shows what is authored at the last frame that it counts, after the list's end too; and no service's buffer was filled.
+/// The law that so it is seen where it is inserted. Let a receiver be fed any front, cut anywhere, of what `insert` puts of a words
+/// file with the captions of an accepted cue list. Let the file's frames have the list's rate and be as many as it has, at least.
+/// The receiver shows what is authored at the last frame that it counts, after the list's end too; and no service's buffer was
+/// filled.
 pub fn inserted_words_are_seen()
     ensures { InsertedWordsAreSeen }
 {}
 
-/// The law that so are two lists: a receiver that was fed any front of what `dual` puts of lists that are accepted together, cut anywhere,
-/// shows at the last frame that it counts the authored grids of the first list on CC1 and CC3, and of the second on CC2 and CC4, each
-/// where the frame is settled for the channel by its own list, and of each service the first list's windows; and no service's buffer
-/// was filled.
+/// The law that so are two lists. Let a receiver be fed any front, cut anywhere, of what `dual` puts of lists that are accepted together.
+/// At the last frame that it counts it shows the authored grids of the first list on CC1 and CC3, and of the second on CC2 and CC4. It
+/// shows each where the frame is settled for the channel by its own list, and of each service the first list's windows; and no service's
+/// buffer was filled.
 pub fn dual_words_are_seen()
     ensures { DualWordsAreSeen }
 {}
@@ -44,9 +45,9 @@ pub fn built_words_are_seen_again()
     ensures seen { BuiltWordsAreSeenAgain }
 {}
 
-/// The law that `conceal` answers an input that is the words of whatever frames of an accepted cue list came, in order and with fewer than
-/// 65,536 missing in a row, with Ok, or Memory, where neither count of faults rose; and that for Ok it put the changes of the screens and
-/// windows that a concealing receiver shows of these frames, with the lines of the missing ones.
+/// The law of `conceal` on words of whatever frames of an accepted cue list came, in order and with fewer than 65,536 missing in a row. It
+/// answers Ok, or Memory, where neither count of faults rose. For Ok it put the changes of the screens and windows that a concealing
+/// receiver shows of these frames, with the lines of the missing ones.
 pub fn delivered_words_are_concealed()
     ensures { DeliveredIsConcealed }
 {}
@@ -57,8 +58,8 @@ pub fn built_words_are_verified()
     ensures { BuiltWordsAreVerified }
 {}
 
-/// The law that the words that `build` puts of an accepted cue list at 29.97, whose delays have at most 166 tenths, are a words file within
-/// the limit, none of whose frames has a misfit: so `convert` ends with Ok or Memory, where no count of faults rose.
+/// The law of the words that `build` puts of an accepted cue list at 29.97, whose delays have at most 166 tenths. They are a words file
+/// within the limit, none of whose frames has a misfit. So `convert` ends with Ok or Memory, where no count of faults rose.
 pub fn built_words_are_fit()
     ensures { BuiltWordsAreFit }
 {}
@@ -68,8 +69,9 @@ pub fn xds_words_are_verified()
     ensures { XdsWordsAreVerified }
 {}
 
-/// The law that no frame knows a cue that is loaded later: what `build` puts of an accepted cue list, and of one that has further cues
-/// at its end, begins with the same words, as far as both have frames: those of all frames before the least LOAD of the further cues.
+/// The law that no frame knows a cue that is loaded later. Take an accepted cue list, and one that has further cues at its end. What
+/// `build` puts of both begins with the same words, as far as both have frames: the words of all frames before the least LOAD of the
+/// further cues.
 pub fn earlier_words_stay()
     ensures { EarlierWordsStay }
 {}

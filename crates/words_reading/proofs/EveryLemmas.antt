@@ -1,5 +1,5 @@
 -- Of every input a command makes something that reads words: they are a file, offend, are cut short or pass the limit; or a run stops within
--- them. What is asked of the command is that of bytes that bring frames it says a text, or stops within them.
+-- them. What is asked of the command: of bytes that bring frames it says a text, or stops within them.
 use Rattle.std.proofs.Common.{◌≡◌, ◌∙◌, ◌<◌, ◌≤◌, ◌⊎◌, ◌++◌, ap, append_assoc, append-nil, arith, drop, inl, inr, length, length-append, subst, sym, ℕ, List, []}
 use Rattle.std.specs.List.{All}
 use Rattle.std.proofs.lemmas.Bool.{cases_lt}

@@ -51,7 +51,7 @@ none_longer frames judged more refusal are offence others other rest is file = b
         absurd (file_has_no_offence caption_channel others other refusal file
         (subst (λ l. FirstOffendingWord caption_channel l refusal) (sym front) (offence_stays caption_channel judged left refusal offence)))
 
--- so the frames of the bytes up to it are those of all
+-- so the frames of the bytes up to it are the frames of all
 abbrev pub offence_keeps_frames : (frames : List Frame) (judged more : List ℕ) (refusal : Refusal) → AreFramesOf caption_channel frames judged
     → FirstOffendingWord caption_channel judged refusal → AreFramesOf caption_channel frames (judged ++ more)
 offence_keeps_frames frames judged more refusal are offence =

@@ -43,7 +43,7 @@ ReadsWords HasJudged Says Halts judge old new (Ok done) =
     IsSteady old new × Stops (λ bytes text. HasJudged bytes text judge) (IsWholeFile old.left) put.Done old new
 ReadsWords HasJudged Says Halts judge old new (Err why) = StopsEarly Says Halts old new why
 
--- the counts of faults where a reading ended: that of the input rose, or that of the output, or neither
+-- the counts of faults where a reading ended: the input's rose, or the output's, or neither
 abbrev pub CountsBy : {R : Type 0} → ℕ → ℕ → ℕ → ℕ → Result (Unit {0}) (Stop R) → Type 0
 CountsBy reads later writes still (Err stop.ReadFault) = Rose reads later × (still ≡ writes)
 CountsBy reads later writes still (Err stop.WriteFault) = (later ≡ reads) × Rose writes still

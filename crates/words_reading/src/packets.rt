@@ -31,7 +31,7 @@ impl Packets {
         })
     }
 
-    /// Reads the next bytes, up to the end of a packet, and keeps them after those of the open packet.
+    /// Reads the next bytes, up to the end of a packet, and keeps them after the open packet's.
     pub fn feed(&mut self, bytes: &[u8]) -> Result<Fed, Refusal>
         requires { MayFollow words_limit self.now (length bytes.now) }
         ensures { (frames : List Frame) (file : List ℕ) → HasRead frames file self.old
@@ -46,7 +46,7 @@ impl Packets {
         }
     }
 
-    /// Keeps bytes after those of the open packet, for which there is room.
+    /// Keeps bytes after the open packet's, for which there is room.
     fn keep(&mut self, bytes: &[u8])
         requires { length self.now.held.items + length bytes.now ≤ 524 }
         ensures held { open_bytes self.new ≡ open_bytes self.old ++ bytes.now }

@@ -13,7 +13,7 @@ use text_output::Gathered;
 pub const WORDS_LIMIT: usize = 2_147_483_647;
 
 /// The most bytes that a command takes of a words file at once. They are 250 frames of 160 bytes, as frames are at 29.97 and 30 with
-/// their 20 triplets, or 400 frames of 100 bytes, as at 59.94 and 60 with 10: the takes of such a file cut no frame. One that is cut is
+/// their 20 triplets, or 400 frames of 100 bytes, as at 59.94 and 60 with 10. The takes of such a file cut no frame. One that is cut is
 /// read byte by byte.
 pub const TAKE: usize = 40_000;
 
@@ -55,7 +55,7 @@ pub fn read_words<J: Judge, M: Source, O: Sink>(
     }
 }
 
-/// Judges bytes, and puts the text that stands for them; where it stops among them, that of what came before.
+/// Judges bytes, and puts the text that stands for them; where it stops among them, the text of what came before.
 fn judge_and_put<J: Judge, O: Sink>(
     judge: &mut J,
     bytes: &[u8],

@@ -1,4 +1,4 @@
--- The frames of a cue list with no packets: each pair is that of the captions.
+-- The frames of a cue list with no packets: each pair is the captions'.
 use Rattle.std.proofs.Common.{refl}
 use Rattle.xds_commands.specs.XdsWords.{NoPacketsAreBuilt}
 

@@ -1,5 +1,5 @@
 -- Believed in part: the program's answer stands on some of these definitions.
--- What is put of a cue list with packets, and what holds of it.
+-- The words that `xds` puts of a cue list with packets, and what holds of them.
 use Rattle.std.specs.Prelude.{◌≡◌, ℕ, suc, ◌<◌, List, [], take}
 use Rattle.cue_list_commands.specs.ReceivedServices.{received_windows}
 use Rattle.cdp_packets.specs.Packets.{Frame}
@@ -27,10 +27,10 @@ xds_framing made = record { rate = made.list.rate; columns = packet_columns made
 abbrev pub xds_packets : PlacedPackets → List Frame
 xds_packets made = packets_of (xds_framing made)
 
--- what holds of the words that `xds` puts: their frames are sound, no service gets more than its share; a receiver that was reset
--- before the first frame shows the list, and at every frame, settled or not, on each channel and in each service what it shows of the words
--- that `build` puts of the list; the delay of each window cue is sent; and the packets that are read in the pairs of field 2 are just those of
--- the list of packets, in their order
+-- what holds of the words that `xds` puts. Their frames are sound, and no service gets more than its share. A receiver that was reset before
+-- the first frame shows the list. At every frame, settled or not, it shows on each channel and in each service what it shows of the words that
+-- `build` puts of the list. The delay of each window cue is sent. The packets that are read in field 2's pairs are just the packets of the
+-- list of packets, in their order
 pub record IsSoundXds (made : PlacedPackets) : Type 0 where
   pub frames : IsSoundFrames made.list.rate made.list.frames (packet_columns made.list made.placed made.codes)
   pub shares : AreSharesKept made.list.rate (share_in made.list) made.list.frames (xds_packets made)

@@ -13,8 +13,8 @@ use cue_list_commands::{Programme, put_words, read_list};
 use std::alloc::Global;
 use xds_frames::{XdsPlanFault, plan_xds};
 
-/// Reads a list of packets from a side file and judges it, then a cue list from the input, and puts the ancillary packets of the frames of
-/// the cue list, gathered so that a put has many, with the packets in the slots of field 2 that its captions leave free.
+/// Reads a list of packets from a side file and judges it, then a cue list from the input. Puts the ancillary packets of the frames of the
+/// cue list, gathered so that a put has many, with the packets in the slots of field 2 that its captions leave free.
 ///
 /// Where both are good, they are refused, in this order: NoRoom where a cue has no placement; NoXdsRoom where the end pair of a packet
 /// finds no free slot in the list's frames.

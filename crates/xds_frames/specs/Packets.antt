@@ -46,7 +46,7 @@ pub record Laying : Type 0 where
   pub pairs : ℕ → Pair
   pub listed : List Listed
 
--- whether each slot is free, and its pair: that of the packets, or else of the captions
+-- whether each slot is free, and its pair: the packets', or else the captions'
 abbrev pub free_at : Laying → ℕ → Bool
 free_at laying n = is_free laying.cues (slot_frame laying.cadence n) (laying.pairs n)
 

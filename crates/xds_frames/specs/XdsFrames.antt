@@ -24,7 +24,7 @@ use Rattle.xds_packets.specs.Places.{AllStand, given_at}
 use Rattle.xds_packets.specs.Reading.{packets_within}
 use Rattle.xds_packets.specs.Sending.{Listed, packets_left}
 
--- the pair of a slot of field 2: that of the packets, or else of the captions
+-- the pair of a slot of field 2: the packets', or else the captions'
 abbrev pub xds_pair : Listing → List ℕ → List Listed → ℕ → Pair
 xds_pair list slots listed n =
     option_map_or (pair_of_code Two) (given_at (free_in list slots) (frame_of_slot list) listed n) (channel_slot Cc3 (slot_cues list Cc3) slots n)

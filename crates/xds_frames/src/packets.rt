@@ -79,7 +79,7 @@ impl Packets {
         }
     }
 
-    // The pair of a slot of field 2: that of the packets, or else of the captions.
+    // The pair of a slot of field 2: the packets', or else the captions'.
     fn pair(&mut self, frame: u32, pair: Pair) -> Pair
         ensures pair { (cues : List Cue) (frees : ℕ → Bool) (frame_of : ℕ → ℕ)
             (listed : List Listed) (n : ℕ) → StandsAt cues frame (loads_in self.old)

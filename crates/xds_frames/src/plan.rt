@@ -17,8 +17,8 @@ use xds_lists::XdsList;
 pub type XdsFrames = Overlaid<Plan, Packets>;
 
 /// Plans a cue list that keeps the rules, and packets beside its captions. Refused, in this order, where a cue has no placement (NoRoom),
-/// and where the end pair of a packet finds no free slot in the list's frames (NoXdsRoom), which a first round through all frames tells.
-/// Memory may run out before either is told.
+/// and where the end pair of a packet finds no free slot in the list's frames (NoXdsRoom). A first round through all frames finds that.
+/// Memory may run out before either is found.
 pub fn plan_xds(alloc: Global, list: &CueList, packets: XdsList) -> Result<XdsFrames, XdsPlanFault>
     requires { IsRuled list.now }
     ensures { MatchResult result

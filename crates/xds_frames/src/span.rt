@@ -1,4 +1,4 @@
-/// The time in which a cue is loaded: from the frame of its LOAD up to that of its SHOW.
+/// The time in which a cue is loaded: from the frame of its LOAD up to its SHOW's.
 #[derive(Clone, Copy)]
 pub struct Span {
     /// The first frame.

@@ -120,7 +120,7 @@ is_unpacked heads texts listed index start head packed are within starts is =
       in_range = subst IsListed (sym one_is) own;
     }
 
--- the text of the next packet begins after that of a packet
+-- the text of the next packet begins after a packet's text
 pub next_text : (listed : List Listed) (index : ℕ) (one : Listed) (rest : List Listed) → index < length listed → drop index listed ≡ one ∷ rest
     → text_before (index + 1) listed ≡ text_before index listed + length one.packet.text
 next_text listed index one rest within is =

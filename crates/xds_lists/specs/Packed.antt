@@ -29,6 +29,6 @@ pub record ArePacked (heads : List Head) (texts : List ℕ) : Type 0 where
   pub in_range : All IsListed (unpacked heads texts)
   pub few : length heads < 2 ^ 32
 
--- the bytes of the texts before that of a packet
+-- the bytes of the texts before a packet's
 abbrev pub text_before : ℕ → List Listed → ℕ
 text_before index listed = length (texts_of (take index listed))

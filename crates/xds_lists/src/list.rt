@@ -78,7 +78,7 @@ impl XdsList {
         self.heads[index].from
     }
 
-    /// A packet, whose text begins after those of the packets before it.
+    /// A packet, whose text begins after the earlier packets' texts.
     pub fn listed(&self, index: usize, start: usize) -> XdsListed
         requires index { index < length self.now }
         requires start { start ≡ text_before index self.now }

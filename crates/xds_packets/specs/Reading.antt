@@ -20,7 +20,7 @@ from_start class kind (segment ∷ segments) = if segment.kind == kind then Some
 abbrev pub of_packet : ℕ → ℕ → List Segment → Option (List Segment)
 of_packet class kind segments = from_start class kind (since_start class segments)
 
--- the bytes of the start pair, which are 2 class - 1 and the type, those of the text, 0F and the checksum sum to 0 modulo 128
+-- the bytes of the start pair, which are 2 class - 1 and the type, the text's, 0F and the checksum sum to 0 modulo 128
 abbrev pub checks : ℕ → ℕ → List ℕ → ℕ → Bool
 checks class kind text check = (2 * class + kind + sum text + 0x0E + check) % 128 == 0
 

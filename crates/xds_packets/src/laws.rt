@@ -30,7 +30,7 @@ pub fn packets_are_carried()
     ensures { PacketsAreCarried }
 {}
 
-/// The number of the first packet that isn't ended is that of the first that isn't read.
+/// The first packet that isn't ended is the first that isn't read.
 pub fn unfinished_is_first()
     ensures { UnfinishedIsFirst }
 {}

@@ -1,5 +1,5 @@
-//! Packets of extended data services in field 2 of line 21 (CTA-608-E, 47 CFR 79.101): what is read of them in pairs, the codes that they are
-//! sent by, and the slots that they stand in beside captions.
+//! Packets of extended data services in field 2 of line 21 (CTA-608-E, 47 CFR 79.101). Here are what is read of them in pairs, the codes that
+//! they are sent by, and the slots that they stand in beside captions.
 #![tactic(auto)]
 
 pub mod laws;

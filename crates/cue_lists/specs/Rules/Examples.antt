@@ -1,5 +1,5 @@
 -- Between crates: the program's answer stands on none of these definitions.
--- Worked examples of the rules: short lists of 100 frames, those of windows of 300, and their faults.
+-- Worked examples of the rules: short lists of 100 frames, or 300 for windows, and their faults.
 use Rattle.std.specs.Prelude.{ℕ, false, List, [], ◌∷◌, Option, Some, None}
 use Rattle.cc_base.specs.declared.rate.Rate.TheVariants as rate
 use Rattle.cc_base.specs.declared.why.Why.{Why}

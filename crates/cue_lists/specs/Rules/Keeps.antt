@@ -106,8 +106,8 @@ pub record KeepsRule (list : Listing) (earlier : List Cue) (cue : Cue) (rule : W
   pub former : (former : Cue) → IsFormer earlier cue former → IsKeptWithFormer rule list former cue
   pub each : AllByRecursion (λ (other : Cue). IsKeptWithEach rule list other cue) earlier
 
--- the number of the other cue that a broken rule names: none where the cue breaks it by itself; else its former cue's, or that of the
--- nearest cue with which it breaks the rule. Cues are numbered from 1
+-- the number of the other cue that a broken rule names: none where the cue breaks it by itself. Else it is its former cue's, or the number
+-- of the nearest cue with which it breaks the rule. Cues are numbered from 1
 abbrev pub NamesOther : Listing → List Cue → Cue → Why → Option ℕ → Type 0
 NamesOther list earlier cue rule None = IsKeptAlone rule list cue → ⊥
 NamesOther list earlier cue rule (Some number) =

@@ -1,5 +1,5 @@
 -- Between crates: the program's answer stands on none of these definitions.
--- What the rules give of the cues of each channel and of those of each service, in the order of the list. Among these, the cue
+-- What the rules give of the cues of each channel and of each service, in the order of the list. Among these, the cue
 -- before a cue is its former cue.
 use Rattle.std.specs.Prelude.{◌≡◌, ◌≢◌, ℕ, ◌+◌, ◌*◌, ◌<◌, ◌≤◌, true, false, List, [], ◌∷◌, All, None, IfSome, IsSome, MatchOption, ⊤}
 use Rattle.std.specs.List.{AllByRecursion}
@@ -79,7 +79,7 @@ pub record IsSoundWindow (list : Listing) (service : ℕ) (cue : Cue) : Type 0 w
 
 -- what the rules ask of a window cue and any cue of its service that stands before it
 pub record KeepsClear (rate : Rate) (earlier cue : Cue) : Type 0 where
-  -- Order: LOAD isn't below that of the cue before
+  -- Order: LOAD isn't below the previous cue's
   pub loaded : earlier.load ≤ cue.load
   -- WindowBusy: where both use one window, its HIDE isn't above LOAD
   pub vacated : same_window cue.kind earlier.kind ≡ true → IfSome earlier.hide (λ hide. hide ≤ cue.load)
@@ -95,7 +95,7 @@ AreInService list service [] = ⊤
 AreInService list service (cue ∷ later) =
     IsSoundWindow list service cue × AllByRecursion (KeepsClear list.rate cue) later × AreInService list service later
 
--- the cues of each channel and those of each service keep the rules
+-- the cues of each channel and of each service keep the rules
 pub record AreLanesRuled (list : Listing) : Type 0 where
   pub channels : (channel : Chan) → AreInSequence (slot_step list.rate) list.frames (cues_on channel list.cues)
   pub on_slots : (channel : Chan) → All (IsOnSlots (cadence_of list.rate channel)) (cues_on channel list.cues)

@@ -42,7 +42,7 @@ other_of against.Itself former = None
 other_of against.Former former = former
 other_of (against.Earlier number) former = Some number
 
--- the fault of a rule, where it is broken, or else that of the rules after it
+-- the fault of a rule, where it is broken, or else the fault of the rules after it
 abbrev pub fault_or : Why → Option Against → ℕ → Option ℕ → Option RuleFault → Option RuleFault
 fault_or why None cue former later = later
 fault_or why (Some against) cue former later =

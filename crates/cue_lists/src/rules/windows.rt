@@ -74,9 +74,10 @@ fn same_window(a: Kind, b: Kind) -> bool
     }
 }
 
-/// Whom a cue breaks the rule DelayCovers against: of the last cues in each window of its service, the nearest of which an
-/// event lies in its delay, or whose delay has an event of the cue, or whose delay starts with its own. No other cue's does,
-/// in a list that keeps the rules so far and for a cue that keeps the rule Order: it was hidden before the cue loaded.
+/// Whom a cue breaks the rule DelayCovers against, of the last cues in each window of its service. It is the nearest of
+/// which an event lies in its delay, or whose delay has an event of the cue, or whose delay starts with its own. No other
+/// cue's does, in a list that keeps the rules so far and for a cue that keeps the rule Order: it was hidden before the cue
+/// loaded.
 pub fn breaks_delay_covers(
     rate: Rate,
     cue: &Cue,

@@ -4,7 +4,7 @@ use Rattle.lanes.specs.ServicePlacing.{IsPlacing}
 use Rattle.lanes.proofs.CueChunkLemmas.{AreLeft}
 use Rattle.lanes.proofs.placed_service.placed_batches.Given as goal
 
--- the units of the cues so far are placed, and those of the others are left
+-- the units of the cues so far are placed, and the others' units are left
 abbrev pub invariant-loop-cue : goal.invariant-loop-cue
 invariant-loop-cue l = record {
   within : l.placing.last.units ≤ length l.units;

@@ -3,7 +3,7 @@ use Rattle.lanes.specs.CueChunks.{AreCounted, chunks_of}
 use Rattle.lanes.specs.ServiceChunks.{service_chunks, service_chunks_from}
 use Rattle.lanes.proofs.service_cues.service_chunks.Given as goal
 
--- the units of the cues so far, and those of the cues to come
+-- the units of the cues so far, and of the cues to come
 abbrev pub invariant-loop-index : goal.invariant-loop-index
 invariant-loop-index l = record {
   counted : AreCounted l.loads.items l.units;
