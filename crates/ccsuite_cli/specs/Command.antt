@@ -17,10 +17,6 @@ use Rattle.time_codes.specs.declared.time_code.TimeCode.{TimeCode}
 use Rattle.ccsuite_cli.specs.declared.command.Command.{Command}
 use Rattle.ccsuite_cli.specs.declared.command.Command.TheVariants.{Build, Conceal, Convert, Cues, Decode, Dual, Export, ExportMcc, Fit, Help, Import, ImportMcc, Insert, Load, Pairs, Show, Verify, Version, Xds, XdsShow}
 
--- the last frame that `show` can name
-abbrev pub last_frame : ℕ
-last_frame = 4294967294
-
 -- the time code of a text, if it spells one and a frame of the day has it
 abbrev pub start_of : List ℕ → Option TimeCode
 start_of text = option_and_then (λ t. if is_time_code t then Some t else None) (time_of_text text)
@@ -37,13 +33,11 @@ countings =
     ∷ (codes "60DF", counting.F60Drop)
     ∷ []
 
--- a time code has the mark of drop frame exactly where the count has drop frame
-abbrev pub is_marked : Counting → TimeCode → Bool
-is_marked count t = if has_drop_frame count then t.drop_frame else not t.drop_frame
-
--- the time code of a text, if it spells one so marked, and a frame of the day has it
+-- the time code of a text, if it spells one that a frame of the day has, with the mark of drop frame exactly where the count has drop frame
 abbrev pub start_in : Counting → List ℕ → Option TimeCode
-start_in count text = option_and_then (λ t. if is_time_code_in count t && is_marked count t then Some t else None) (time_of_text text)
+start_in count text =
+    option_and_then (λ t. if is_time_code_in count t && (if has_drop_frame count then t.drop_frame else not t.drop_frame) then Some t else None)
+    (time_of_text text)
 
 -- the command of a rate and a time code
 abbrev pub mcc_of : List ℕ → List ℕ → Option Command
@@ -72,7 +66,7 @@ commands =
     (codes "pairs", Nothing Pairs)
     ∷ (codes "build", Nothing Build)
     ∷ (codes "decode", Nothing Decode)
-    ∷ (codes "show", Argument (codes "FRAME") (λ frame. option_map Show (number_within 0 last_frame frame)))
+    ∷ (codes "show", Argument (codes "FRAME") (λ frame. option_map Show (number_within 0 4294967294 frame)))
     ∷ (codes "verify", Argument (codes "CUES") (λ path. Some Verify))
     ∷ (codes "insert", Argument (codes "CUES") (λ path. Some Insert))
     ∷ (codes "import", Optional (codes " [TIME]") (Import None) (λ time. option_map (λ start. Import (Some start)) (start_of time)))

@@ -1,10 +1,10 @@
 ghost use Rattle.std.specs.Option.{option_copied};
-ghost use Rattle.std.specs.Prelude.{◌≡◌, ◌≤◌, [], ◌∷◌, IfSome, map, string_bytes, true};
-ghost use Rattle.ccsuite_cli.specs.Command.{IsRunnable, command_of, countings, has_side_file, is_marked, last_frame, side_path, start_in, start_of};
+ghost use Rattle.std.specs.Prelude.{◌≡◌, ◌≤◌, [], ◌∷◌, IfSome, if◌then◌else◌, map, not, string_bytes, true};
+ghost use Rattle.ccsuite_cli.specs.Command.{IsRunnable, command_of, countings, has_side_file, side_path, start_in, start_of};
 ghost use Rattle.cue_lists.specs.Fields.{named, number_within};
 ghost use Rattle.fit_commands.specs.Fitted.{most_late};
 ghost use Rattle.load_commands.specs.LoadList.{most_load};
-ghost use Rattle.time_codes.specs.Countings.{is_time_code_in};
+ghost use Rattle.time_codes.specs.Countings.{has_drop_frame, is_time_code_in};
 ghost use Rattle.time_codes.specs.TimeCodes.{is_time_code};
 
 use cue_lists::read_within;
@@ -204,7 +204,7 @@ fn read_start_in(count: Counting, text: &str) -> Option<TimeCode>
 
 /// Whether a time code has the mark of drop frame exactly where the count has drop frame.
 fn is_marked(count: Counting, time: TimeCode) -> bool
-    ensures { result ≡ is_marked count time }
+    ensures { result ≡ (if has_drop_frame count then time.drop_frame else not time.drop_frame) }
 {
     if count.has_drop_frame() {
         time.drop_frame
@@ -227,7 +227,7 @@ fn read_start(text: &str) -> Option<TimeCode>
 
 /// The number of a frame, written as in cue lists: 1 to 10 digits without a sign and without a leading zero.
 fn read_frame(number: &str) -> Option<u32>
-    ensures { result ≡ number_within 0 last_frame number.now }
+    ensures { result ≡ number_within 0 4294967294 number.now }
 {
     match read_within(0, LAST_FRAME, number.as_bytes()) {
         Some(frame) => Some(frame as u32),
