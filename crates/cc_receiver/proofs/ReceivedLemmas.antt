@@ -13,7 +13,9 @@ use Rattle.line21_codes.specs.declared.channels.Chan.{Chan}
 use Rattle.line21_codes.specs.Channels.{field_of_channel, data_channel_of}
 use Rattle.line21_screen.specs.Fields.{FieldState, channel}
 use Rattle.line21_screen.specs.Meaning.{after}
-use Rattle.line21_screen.specs.Objects.{field_of}
+use Rattle.line21_codes.specs.declared.pairs.Pair.{Pair}
+use Rattle.line21_screen.specs.Objects.{Leads, field_of}
+use Rattle.line21_screen.specs.declared.modes.Mode.{Mode}
 use Rattle.services_files.specs.Catching.{caught_in, refusal_of}
 use Rattle.services_files.specs.Services.{services_say}
 use Rattle.services_files.specs.CaptionChannel.{caption_channel}
@@ -25,7 +27,7 @@ use Rattle.cc_receiver.specs.Gathering.{Gathered}
 use Rattle.cc_receiver.specs.Gatherers.{Holds}
 use Rattle.cc_receiver.specs.Catchers.{KeepsLast}
 use Rattle.cc_receiver.specs.Hearing.{heard}
-use Rattle.cc_receiver.specs.Receivers.{HasReceived, displayed_grid, field_in, receiver_refusal}
+use Rattle.cc_receiver.specs.Receivers.{HasReceived, displayed_grid, field_in, received_mode, receiver_refusal}
 use Rattle.cc_receiver.proofs.GatheredLemmas.{packet_gathered}
 use Rattle.cc_receiver.proofs.HeardLemmas.{AllFit, Fits, frames_of_fit, heard_frames}
 
@@ -54,6 +56,24 @@ pub shown_received : (frames : List Frame) (bytes : List ℕ) (receiver : Receiv
     → displayed_grid receiver chan ≡ received_grids frames chan
 shown_received frames bytes receiver chan had are =
     ap (λ (s : FieldState). (channel (data_channel_of chan) s).displayed) (field_received (field_of_channel chan) frames bytes receiver had are)
+
+-- which pairs lead to a field
+field_led : (in_field : FieldNumber) (frames : List Frame) (bytes : List ℕ) (receiver : Receiver) → HasReceived bytes receiver → AreFramesOf caption_channel frames bytes
+    → Leads in_field (reverse (received_pairs in_field frames)) (field_in in_field receiver)
+field_led One frames bytes receiver had are =
+    subst (λ (ps : List Pair). Leads One ps receiver.captions.first) (heard_of One frames bytes receiver had are) had.reached.took.first
+field_led Two frames bytes receiver had are =
+    subst (λ (ps : List Pair). Leads Two ps receiver.captions.second) (heard_of Two frames bytes receiver had are) had.reached.took.second
+
+-- a mode that is a channel's, whatever pairs lead to its field, is what the frames leave
+pub mode_received : (frames : List Frame) (bytes : List ℕ) (receiver : Receiver) (chan : Chan) (mode : Mode) → HasReceived bytes receiver
+    → AreFramesOf caption_channel frames bytes
+    → ((in_field : FieldNumber) (before : List Pair) → Leads in_field before (field_in (field_of_channel chan) receiver)
+    → mode ≡ (channel (data_channel_of chan) (after in_field before)).mode)
+    → mode ≡ received_mode frames chan
+mode_received frames bytes receiver chan mode had are is =
+    let in_field = field_of_channel chan in
+    is in_field (reverse (received_pairs in_field frames)) (field_led in_field frames bytes receiver had are)
 
 -- the last of frames that fit
 last_fits : (earlier : List Frame) (last : Frame) → AllFit (earlier ++ last ∷ []) → Fits last

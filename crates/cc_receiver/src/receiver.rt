@@ -28,8 +28,8 @@ use anc_words::{CaptionPacket, WordReader};
 use cc_base::{Rate, Refusal, Resume};
 use cc_data::Triplet;
 use dtvcc_windows::Window;
-use line21_codes::{Cell, Chan, Pair};
-use line21_screen::Memory;
+use line21_codes::{Cell, Chan, DataChannel, Pair};
+use line21_screen::{Memory, Mode};
 use std::alloc::{AllocError, Global};
 
 /// Whether an ancillary packet ended, and which.
@@ -66,7 +66,7 @@ pub struct Receiver {
 
 impl Receiver {
     ghost use Rattle.line21_screen.specs.Objects.{grid_in};
-    ghost use Rattle.cc_receiver.specs.Receivers.{HasReceived, displayed_grid, frame_count, receiver_refusal};
+    ghost use Rattle.cc_receiver.specs.Receivers.{HasReceived, displayed_grid, frame_count, received_mode, receiver_refusal};
     ghost use Rattle.cc_receiver.specs.Wholes.{ReadsWhole};
     ghost use Rattle.cc_receiver.specs.ReceivedServices.{fills_in, received_service, received_windows};
     ghost use Rattle.dtvcc_services.specs.Numbers.{IsLowest, IsService};
@@ -242,6 +242,16 @@ impl Receiver {
         self.captions
             .field(chan.field())
             .displayed(chan.data_channel())
+    }
+
+    /// The mode of a channel after the last whole frame: what its next characters are written for (CTA-608-E; 47 CFR 79.101).
+    pub fn mode(&self, chan: Chan) -> Mode
+        ensures received { (bytes : List ℕ) (frames : List FrameOf) → HasReceived bytes self.now
+            → AreFramesOf caption_channel frames bytes
+            → result ≡ received_mode frames chan }
+    {
+        let second_channel = chan.data_channel() == DataChannel::Two;
+        self.captions.field(chan.field()).mode(second_channel)
     }
 
     /// Whether all pairs of line 21 of the last whole frame, where there is one, are null pairs, 80 80: such a frame leaves all
