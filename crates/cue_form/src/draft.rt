@@ -1,5 +1,5 @@
 ghost use Rattle.cue_types.specs.Listing.{most_cues};
-ghost use Rattle.std.specs.Prelude.{◌≡◌, ◌==◌, ◌+◌, ◌≤◌, ◌++◌, IfOk, Some, option_to_list, not, nat_le, nat_lt, length};
+ghost use Rattle.std.specs.Prelude.{◌≡◌, ◌==◌, ◌+◌, ◌≤◌, ◌++◌, IfOk, Some, option_map, option_to_list, not, nat_le, nat_lt, length};
 ghost use Rattle.std.specs.List.{list_any};
 ghost use Rattle.csv.specs.Records.{fields_of};
 ghost use Rattle.cue_form.specs.Answers.{Answers, GivesBegun};
@@ -68,6 +68,20 @@ impl Draft {
         self.head
     }
 
+    /// The shares so far.
+    pub fn shares(&self) -> &[Share]
+        ensures { result.now ≡ self.now.shares }
+    {
+        self.shares.as_slice()
+    }
+
+    /// The last cue, with the runs so far, if the list has one.
+    pub fn last(&self) -> Option<&Cue>
+        ensures { option_map (λ cue. cue.now) result ≡ self.now.last }
+    {
+        self.last.as_ref()
+    }
+
     /// The last cue, which has the runs so far, if the list has one.
     pub fn into_last(self) -> Option<Cue>
         ensures { result ≡ self.last }
@@ -119,7 +133,7 @@ impl Draft {
     }
 
     /// Whether a record of a kind may stand next.
-    fn may_stand(&self, kind: RecordKind) -> bool
+    pub fn may_stand(&self, kind: RecordKind) -> bool
         ensures { result ≡ may_stand self.now kind }
     {
         match kind {
