@@ -1,4 +1,4 @@
-ghost use Rattle.std.specs.Prelude.{◌≡◌, ◌≤◌, [], decimal, encode_utf8, length};
+ghost use Rattle.std.specs.Prelude.{◌≡◌, ◌≤◌, ◌++◌, ◌∷◌, [], false, true, decimal, encode_utf8, length};
 ghost use Rattle.std.specs.List.{flat_map};
 ghost use Rattle.cc_base.specs.Streams.{PutCause, Puts};
 ghost use Rattle.cc_base.specs.declared.streams.Put.TheVariants as put;
@@ -153,6 +153,40 @@ impl Gathered {
 
     /// Writes a character in UTF-8.
     pub fn write_character<O: Sink>(&mut self, ch: char, out: &mut O)
+        ensures { Adds O.written O.faults self.old out.old self.new out.new (encode_utf8 ch) }
+    {
+        if ch.is_ascii() {
+            self.write_byte(ch as u8, out);
+        } else {
+            self.write_encoded(ch, out);
+        }
+    }
+
+    // Writes a byte: it is held without a look at the sink, if there is room for it.
+    fn write_byte<O: Sink>(&mut self, byte: u8, out: &mut O)
+        ensures { Adds O.written O.faults self.old out.old self.new out.new (byte ∷ []) }
+    {
+        match self.answer {
+            Put::Failed => {}
+            Put::Done => {
+                if !self.hold(byte) {
+                    self.write(&[byte], out);
+                }
+            }
+        }
+    }
+
+    // Holds a byte after the others, if there is room for it.
+    fn hold(&mut self, byte: u8) -> bool
+        ensures held { result ≡ true → held_of self.new ≡ held_of self.old ++ byte ∷ [] }
+        ensures same { result ≡ false → self.new ≡ self.old }
+        ensures answer { answer_of self.new ≡ answer_of self.old }
+    {
+        self.held.try_push(byte).is_ok()
+    }
+
+    // Writes a character as the bytes of its UTF-8.
+    fn write_encoded<O: Sink>(&mut self, ch: char, out: &mut O)
         ensures { Adds O.written O.faults self.old out.old self.new out.new (encode_utf8 ch) }
     {
         let mut bytes = [0; 4];

@@ -1,7 +1,9 @@
-use Rattle.std.proofs.Common.{◌∙◌, ap, ◌++◌}
+use Rattle.std.proofs.Common.{◌<◌, ◌++◌, ◌∙◌, ap, ltb-true, sym}
+use Rattle.std.proofs.lemmas.Str.{encode_ascii}
 use Rattle.text_output.proofs.PageLemmas.{written_same}
 use Rattle.text_output.proofs.gathered.Gathered.write_character.Goals as goal
 
-pub returns : goal.returns
-returns g c start faults before has =
-    written_same start faults _ _ _ (ap (λ l. before ++ l) (c.as_bytes.ensures.value ∙ c.encode_utf8.ensures.value)) (c.write.ensures start faults before has)
+pub returns-then-is_ascii : goal.returns-then-is_ascii
+returns-then-is_ascii g c = λ start faults before has.
+    let below : c.args.ch < 128 = ltb-true c.args.ch 128 (sym c.is_ascii.ensures ∙ c.if-is_ascii.true) in
+    written_same start faults _ _ _ (ap (λ l. before ++ l) (sym (encode_ascii c.args.ch below))) (c.write_byte.ensures start faults before has)
