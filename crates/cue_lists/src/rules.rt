@@ -19,17 +19,17 @@ use cc_base::Why;
 use cue_types::{Cue, CueList};
 use line21_slots::slot_step;
 
-mod against;
+pub mod against;
 mod cells;
-mod clash;
+pub mod clash;
 mod examples;
-mod formers;
-mod off_slot;
-mod order;
-mod overlap;
-mod past_end;
-mod unhidden;
-mod windows;
+pub mod formers;
+pub mod off_slot;
+pub mod order;
+pub mod overlap;
+pub mod past_end;
+pub mod unhidden;
+pub mod windows;
 
 /// The fault of the first cue of a list that breaks a rule, by the lowest rule that it breaks.
 #[derive(Clone, Copy, PartialEq, Eq)]
@@ -96,7 +96,7 @@ fn judge(list: &CueList, earlier: &[Cue], formers: &Formers, cue: &Cue) -> Resul
 
 /// The fault of the first broken rule, of a cue with this number and its former cue's. A verdict is a rule, and whom the
 /// cue breaks it against, if it does.
-fn first_fault(
+pub fn first_fault(
     verdicts: &[(Why, Option<Against>)],
     cue: u32,
     former: Option<u32>,

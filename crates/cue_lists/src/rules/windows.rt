@@ -58,7 +58,7 @@ fn against(number: Option<u32>) -> Option<Against>
 }
 
 /// An earlier cue of the same service and ID has a HIDE above the cue's LOAD.
-fn keeps_window(cue: &Cue, other: &Cue) -> bool
+pub fn keeps_window(cue: &Cue, other: &Cue) -> bool
     ensures { result ≡ keeps_window cue.now other.now }
 {
     same_window(cue.kind, other.kind) && matches!(other.hide, Some(hide) if cue.load < hide)
@@ -128,7 +128,7 @@ fn later(a: Option<u32>, b: Option<u32>) -> Option<u32>
 }
 
 /// Two cues of one service have the same delay start, or an event frame of one lies in the delay of the other.
-fn delays_cross(rate: Rate, cue: &Cue, other: &Cue) -> bool
+pub fn delays_cross(rate: Rate, cue: &Cue, other: &Cue) -> bool
     ensures { result ≡ delays_cross rate cue.now other.now }
 {
     same_service(cue.kind, other.kind)
