@@ -1,5 +1,5 @@
 -- What `verify` answers, by how its list and its words were read.
-use Rattle.std.proofs.Common.{◌≡◌, ◌∙◌, ◌<◌, ◌≤◌, ◌++◌, arith, inl, inr, length, refl, subst, sym, ℕ, List, [], Option, Some, None, Ok}
+use Rattle.std.proofs.Common.{◌≡◌, ◌∙◌, ◌<◌, ◌≤◌, ◌++◌, arith, codes, inl, inr, length, refl, subst, sym, ℕ, List, [], Option, Some, None, Ok}
 use Rattle.std.specs.Io.KnownBytes.{Appends}
 use Rattle.cc_base.specs.Streams.{Puts, Rose}
 use Rattle.cc_base.specs.declared.streams.Put.TheVariants as put
@@ -27,7 +27,7 @@ use Rattle.words_reading.specs.Reading.{Stops, StopsEarly}
 use Rattle.words_reading.specs.Statuses.{stop_status}
 use Rattle.words_reading.specs.declared.judge.Stop.{Stop}
 use Rattle.words_reading.specs.declared.judge.Stop.TheVariants as stop
-use Rattle.verify_commands.specs.VerifyVerdict.{FindsFirst, FindsNothing, VerifyEnd, VerifyHalts, VerifyVerdict, VerifyWords, ok_line}
+use Rattle.verify_commands.specs.VerifyVerdict.{FindsFirst, FindsNothing, VerifyEnd, VerifyHalts, VerifyVerdict, VerifyWords}
 use Rattle.verify_commands.specs.Verifying.{HasJudgedSo, found_status}
 use Rattle.verify_commands.specs.declared.verifying.Found.{Found}
 use Rattle.verify_commands.specs.declared.verifying.Verifying.{Verifying}
@@ -142,14 +142,14 @@ at_end list verifying first after reads then answer text input (steady, stops) k
 
 -- there are frames enough
 enough_of : (list : Listing) (verifying : Verifying) (first after : Option (List ℕ)) (reads then count : ℕ) → (ended : HasEnded list verifying first after reads then)
-    → count ≡ verified_frames verifying.verifier → list.frames ≤ count → VerifyEnd list status.Ok ended.1.judged ok_line
+    → count ≡ verified_frames verifying.verifier → list.frames ≤ count → VerifyEnd list status.Ok ended.1.judged (codes "ok\n")
 enough_of list verifying first after reads then count ended is enough =
     let (frames, file, clean, number) = whole_of list verifying first after reads then count ended is in (frames, file, (clean, omega (arith, number, enough), refl))
 
 -- and the line is put, or a front of it
 pub verified_put : (left later first after written now_written : Option (List ℕ)) (before now reads then writes still count : ℕ) (list : Listing) (verifying : Verifying)
     → ReadsList left later before now (Ok list) → HasEnded list verifying first after reads then
-    → count ≡ verified_frames verifying.verifier → list.frames ≤ count → Appends written now_written ok_line → still ≡ writes
+    → count ≡ verified_frames verifying.verifier → list.frames ≤ count → Appends written now_written (codes "ok\n") → still ≡ writes
     → RealisesBeside IsGoodList VerifyVerdict (side_ends left before) (side_ends later now) (ends first reads written writes) (ends after then now_written still) status.Ok
 verified_put left later first after written now_written before now reads then writes still count list verifying read ended is enough puts kept =
     read_beside IsGoodList IsRefusedList VerifyWords list (side_ends left before) (side_ends later now) (ends first reads written writes) (ends after then now_written still) status.Ok
@@ -159,8 +159,8 @@ verified_put left later first after written now_written before now reads then wr
       of_told _ first (λ input known. (
         whole_end first after input ended.1.judged ended.1.unjudged known ended.1.taken ended.1.cause.0,
         (
-          ok_line,
-          inl (at_end list verifying first after reads then status.Ok ok_line input ended known (enough_of list verifying first after reads then count ended is enough)),
+          codes "ok\n",
+          inl (at_end list verifying first after reads then status.Ok (codes "ok\n") input ended known (enough_of list verifying first after reads then count ended is enough)),
           puts,
         ),
       )),
@@ -168,7 +168,7 @@ verified_put left later first after written now_written before now reads then wr
 
 pub verified_failed : (left later first after written now_written : Option (List ℕ)) (before now reads then writes still count : ℕ) (list : Listing) (verifying : Verifying)
     → ReadsList left later before now (Ok list) → HasEnded list verifying first after reads then → count ≡ verified_frames verifying.verifier
-    → list.frames ≤ count → Puts written now_written put.Failed ok_line → Rose writes still
+    → list.frames ≤ count → Puts written now_written put.Failed (codes "ok\n") → Rose writes still
     → RealisesBeside IsGoodList VerifyVerdict (side_ends left before) (side_ends later now) (ends first reads written writes) (ends after then now_written still) status.WriteFault
 verified_failed left later first after written now_written before now reads then writes still count list verifying read ended is enough puts rose =
     read_beside IsGoodList IsRefusedList VerifyWords list (side_ends left before) (side_ends later now) (ends first reads written writes) (ends after then now_written still)
@@ -177,8 +177,8 @@ verified_failed left later first after written now_written before now reads then
       ended.0.reads,
       rose,
       of_told _ first (λ input known. (
-        ok_line,
-        at_end list verifying first after reads then status.Ok ok_line input ended known (enough_of list verifying first after reads then count ended is enough),
+        codes "ok\n",
+        at_end list verifying first after reads then status.Ok (codes "ok\n") input ended known (enough_of list verifying first after reads then count ended is enough),
         puts,
       )),
     ) (λ memory. cc)

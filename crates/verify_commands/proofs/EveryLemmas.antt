@@ -1,5 +1,5 @@
 -- Of every side file and all words `verify` makes one status: at a frame after clean ones nothing is found, or something first.
-use Rattle.std.proofs.Common.{◌⊎◌, ◌++◌, ◌∷◌, inl, inr, length, refl, ℕ, List, []}
+use Rattle.std.proofs.Common.{◌⊎◌, ◌++◌, ◌∷◌, codes, inl, inr, length, refl, ℕ, List, []}
 use Rattle.std.proofs.lemmas.Bool.{cases_lt}
 use Rattle.words_reading.specs.CaptionChannel.{caption_channel}
 use Rattle.cc_verifier.proofs.FindingLemmas.{clean_more, clean_none}
@@ -15,7 +15,7 @@ use Rattle.cue_list_commands.specs.Accepted.{IsGoodList, IsRefusedList}
 use Rattle.cue_types.specs.Listing.{Listing}
 use Rattle.verify_commands.proofs.DecidedLemmas.{clean_or_found}
 use Rattle.verify_commands.proofs.VerdictLemmas.{IsFoundFor}
-use Rattle.verify_commands.specs.VerifyVerdict.{FindsNothing, VerifyEnd, VerifyHalts, VerifyVerdict, VerifyWords, ok_line}
+use Rattle.verify_commands.specs.VerifyVerdict.{FindsNothing, VerifyEnd, VerifyHalts, VerifyVerdict, VerifyWords}
 use Rattle.words_files.specs.FramesOf.{AreFramesOf}
 use Rattle.words_files.specs.Offences.{IsFileUnder}
 use Rattle.words_reading.proofs.EveryLemmas.{HaltsIn, IsSaid, every_words}
@@ -50,7 +50,7 @@ module _ (list : Listing) where
       let (others, another, clean) = said_of (λ frames. []) (AreClean list) frames input text file says in
       elim (cases_lt (length others) list.frames) [
         | inl few ↦ (status.Short (length others), [], λ fault. fault, (others, another, (clean.0, refl, few, refl)))
-        | inr enough ↦ (status.Ok, ok_line, λ fault. fault, (others, another, (clean.0, enough, refl)))
+        | inr enough ↦ (status.Ok, codes "ok\n", λ fault. fault, (others, another, (clean.0, enough, refl)))
       ]
 
   words_plain : (input : List ℕ) (answer : Status) (text : List ℕ) → (IsFault answer → ⊥) → WordsVerdict (VerifyEnd list) (FindsNothing list) (VerifyHalts list) input answer text

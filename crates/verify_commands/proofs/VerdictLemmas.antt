@@ -11,7 +11,8 @@ use Rattle.cue_list_commands.specs.Accepted.{IsGoodList, IsRefusedList}
 use Rattle.cue_types.specs.Listing.{Listing}
 use Rattle.findings.specs.declared.finding.Finding.{Finding}
 use Rattle.verify_commands.proofs.FoundLemmas.{found_once}
-use Rattle.verify_commands.specs.VerifyVerdict.{FindsNothing, IsFoundAtFrame, VerifyEnd, VerifyHalts, VerifyVerdict, VerifyWords}
+use Rattle.verify_commands.proofs.VerifyingLemmas.{IsFoundAtFrame}
+use Rattle.verify_commands.specs.VerifyVerdict.{FindsNothing, VerifyEnd, VerifyHalts, VerifyVerdict, VerifyWords}
 use Rattle.words_reading.proofs.HaltLemmas.{CountedFile, HaltsAt, counted_once, frames_one, halted_at, said_fit}
 use Rattle.words_reading.specs.WordsVerdict.{WordsVerdict}
 

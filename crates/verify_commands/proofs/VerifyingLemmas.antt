@@ -8,13 +8,14 @@ use Rattle.words_reading.specs.Ended.{Ended}
 use Rattle.words_reading.specs.Ended.TheVariants as ended
 use Rattle.words_reading.specs.Fed.{Fed}
 use Rattle.cc_verifier.proofs.VerifierLemmas.{found_is, found_none}
-use Rattle.cc_verifier.specs.Findings.{AreClean, FirstFinding}
+use Rattle.cc_verifier.specs.Findings.{AreClean, FirstFinding, IsFound, place_of}
 use Rattle.cc_verifier.specs.Verifiers.{FeedsOn, HasVerified, JudgesFile, finding_of, list_of}
 use Rattle.cc_verifier.specs.declared.verifier.Verdict.{Verdict}
 use Rattle.cc_verifier.specs.declared.verifier.Verdict.TheVariants as verdict
 use Rattle.cc_verifier.specs.declared.verifier.Verifier.{Verifier}
 use Rattle.cdp_packets.specs.Packets.{Frame}
 use Rattle.cue_types.specs.Listing.{Listing}
+use Rattle.findings.specs.First.{IsFirstTried}
 use Rattle.findings.specs.declared.finding.Finding.{Finding}
 use Rattle.words_reading.specs.CaptionChannel.{caption_channel}
 use Rattle.words_files.proofs.FramesOfLemmas.{frames_of_once}
@@ -22,7 +23,7 @@ use Rattle.words_files.proofs.FrontLemmas.{TwoFronts, before_it, behind_it, same
 use Rattle.words_reading.proofs.PieceLemmas.{cut_short, front_size, front_spelled}
 use Rattle.words_reading.specs.Judging.{EndsAt, HasGathered, HasStopped}
 use Rattle.words_reading.specs.declared.judge.Stop.TheVariants as stop
-use Rattle.verify_commands.specs.VerifyVerdict.{FindsFirst, FindsNothing, IsFoundAtFrame}
+use Rattle.verify_commands.specs.VerifyVerdict.{FindsFirst, FindsNothing}
 use Rattle.verify_commands.specs.Verifying.{HasJudged, HasJudgedSo}
 use Rattle.verify_commands.specs.declared.verifying.Found.{Found}
 use Rattle.verify_commands.specs.declared.verifying.Verifying.{Verifying}
@@ -96,6 +97,10 @@ nothing_met list start now held before bytes old new fed had feeds verified own 
       (goes_on_so list before bytes old.verifier new fed had.judged.judged feeds verified own nothing within moves) had.judged.says.text_is;
   way = had.way;
 }
+
+-- this is found first of all at a frame, of which those before are these
+abbrev pub IsFoundAtFrame : Listing → Finding → List Frame → Frame → Type 0
+IsFoundAtFrame list finding frames last = (finding.frame ≡ length frames) × IsFirstTried (IsFound list frames last) place_of finding.kind
 
 -- where nothing is found at the frames before the last, the first finding is at it
 found_by : (list : Listing) (frames : List Frame) (next : Frame) (finding : Finding) → AreClean list frames → (first : FirstFinding list (frames ++ next ∷ []) finding)

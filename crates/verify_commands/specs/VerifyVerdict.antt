@@ -18,22 +18,17 @@ use Rattle.words_reading.specs.WordsVerdict.{OfFile, WordsVerdict}
 abbrev pub FindsNothing : Listing → List ℕ → List ℕ → Type 0
 FindsNothing list = FramesSay (λ frames. []) (AreClean list)
 
--- this is found first of all at a frame, of which those before are these
-abbrev pub IsFoundAtFrame : Listing → Finding → List Frame → Frame → Type 0
-IsFoundAtFrame list finding frames last = (finding.frame ≡ length frames) × IsFirstTried (IsFound list frames last) place_of finding.kind
-
--- bytes, none of whose words offends, end with the frame at which this is found, the first at which anything is, and nothing is put
+-- bytes, none of whose words offends, end with the frame at which this is found, first of all there, and nothing is found at any before;
+-- and nothing is put
 abbrev pub FindsFirst : Listing → Finding → List ℕ → List ℕ → Type 0
-FindsFirst list finding = FramesHalt (λ frames. []) (AreClean list) (IsFoundAtFrame list finding)
+FindsFirst list finding =
+    FramesHalt (λ frames. []) (AreClean list)
+    (λ frames last. (finding.frame ≡ length frames) × IsFirstTried (IsFound list frames last) place_of finding.kind)
 
--- the line that is put
-abbrev pub ok_line : List ℕ
-ok_line = codes "ok\n"
-
--- nothing is found at any frame, and there are as many as in the list, or too few
+-- nothing is found at any frame, and there are as many as in the list, and one line is put; or there are too few, and nothing is
 abbrev pub VerifyEnd : Listing → Status → List ℕ → List ℕ → Type 0
 VerifyEnd list status.Ok input text =
-    OfFile (λ frames. AreClean list frames × (list.frames ≤ length frames) × (text ≡ ok_line)) input
+    OfFile (λ frames. AreClean list frames × (list.frames ≤ length frames) × (text ≡ codes "ok\n")) input
 VerifyEnd list (status.Short count) input text =
     OfFile (λ frames. AreClean list frames × (count ≡ length frames) × (count < list.frames) × (text ≡ [])) input
 VerifyEnd list _ input text = ⊥
