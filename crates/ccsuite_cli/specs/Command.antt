@@ -5,7 +5,7 @@ use Rattle.std.specs.List.{join_by}
 use Rattle.std.specs.Option.{option_and_then, option_or}
 use Rattle.cue_lists.specs.Fields.{named, number_within}
 use Rattle.fit_commands.specs.Fitted.{most_late}
-use Rattle.help_commands.specs.Pages.{page_of}
+use Rattle.help_commands.specs.Pages.{pages}
 use Rattle.help_commands.specs.declared.page.Page.TheVariants.{Commands}
 use Rattle.load_commands.specs.LoadList.{most_load}
 use Rattle.time_codes.specs.Countings.{has_drop_frame, is_time_code_in}
@@ -81,7 +81,7 @@ commands =
     ∷ (codes "import-mcc", Nothing ImportMcc)
     ∷ (codes "export-mcc", Arguments (codes "RATE") (codes "TIME") (λ rate time. mcc_of rate time))
     ∷ (codes "fit", Argument (codes "N") (λ late. option_map Fit (number_within 0 most_late late)))
-    ∷ (codes "help", Optional [] (Help Commands) (λ word. option_map Help (page_of word)))
+    ∷ (codes "help", Optional [] (Help Commands) (λ word. option_map Help (named pages word)))
     ∷ (codes "version", Nothing Version)
     ∷ []
 

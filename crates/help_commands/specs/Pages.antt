@@ -1,7 +1,6 @@
 -- Believed: the program's answer stands on these definitions.
 -- The pages of help, each by its command's word, and their texts.
-use Rattle.std.specs.Prelude.{ℕ, List, [], ◌∷◌, Option, codes}
-use Rattle.cue_form.specs.Fields.{named}
+use Rattle.std.specs.Prelude.{ℕ, List, [], ◌∷◌, codes}
 use Rattle.help_commands.specs.declared.page.Page.{Page}
 use Rattle.help_commands.specs.declared.page.Page.TheVariants as page
 use Rattle.help_commands.specs.declared.texts.TheConstants.{BUILD_PAGE, COMMANDS_PAGE, CONCEAL_PAGE, CONVERT_PAGE, CUES_PAGE, DECODE_PAGE, DUAL_PAGE, EXPORT_MCC_PAGE, EXPORT_PAGE, FIT_PAGE, HELP_PAGE, IMPORT_MCC_PAGE, IMPORT_PAGE, INSERT_PAGE, LOAD_PAGE, PAIRS_PAGE, SHOW_PAGE, VERIFY_PAGE, VERSION_PAGE, XDS_PAGE, XDS_SHOW_PAGE}
@@ -30,9 +29,6 @@ pages =
     ∷ (codes "help", page.Help)
     ∷ (codes "version", page.Version)
     ∷ []
-
-abbrev pub page_of : List ℕ → Option Page
-page_of word = named pages word
 
 -- the text of a page
 abbrev pub page_text : Page → List ℕ

@@ -1,5 +1,6 @@
 ghost use Rattle.std.specs.Prelude.{◌≡◌};
-ghost use Rattle.help_commands.specs.Pages.{page_of, page_text};
+ghost use Rattle.cue_form.specs.Fields.{named};
+ghost use Rattle.help_commands.specs.Pages.{page_text, pages};
 
 use crate::texts::{
     BUILD_PAGE, COMMANDS_PAGE, CONCEAL_PAGE, CONVERT_PAGE, CUES_PAGE, DECODE_PAGE, DUAL_PAGE,
@@ -56,7 +57,7 @@ pub enum Page {
 
 /// The page on the command of this word; None where it is none.
 pub fn page_of(word: &str) -> Option<Page>
-    ensures { result ≡ page_of word.now }
+    ensures { result ≡ named pages word.now }
 {
     match word {
         "build" => Some(Page::Build),
