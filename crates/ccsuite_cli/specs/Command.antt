@@ -39,10 +39,6 @@ start_in count text =
     option_and_then (λ t. if is_time_code_in count t && (if has_drop_frame count then t.drop_frame else not t.drop_frame) then Some t else None)
     (time_of_text text)
 
--- the command of a rate and a time code
-abbrev pub mcc_of : List ℕ → List ℕ → Option Command
-mcc_of rate time = option_and_then (λ count. option_map (λ start. ExportMcc count start) (start_in count time)) (named countings rate)
-
 -- a command whose time code, if it has one, is of the day, and whose number, if it has one, is a load's or a fit's
 abbrev pub IsRunnable : Option Command → Type 0
 IsRunnable (Some (Import time)) = IfSome time (λ start. is_time_code start ≡ true)
@@ -79,7 +75,8 @@ commands =
     ∷ (codes "conceal", Nothing Conceal)
     ∷ (codes "convert", Nothing Convert)
     ∷ (codes "import-mcc", Nothing ImportMcc)
-    ∷ (codes "export-mcc", Arguments (codes "RATE") (codes "TIME") (λ rate time. mcc_of rate time))
+    ∷ (codes "export-mcc", Arguments (codes "RATE") (codes "TIME")
+        (λ rate time. option_and_then (λ count. option_map (ExportMcc count) (start_in count time)) (named countings rate)))
     ∷ (codes "fit", Argument (codes "N") (λ late. option_map Fit (number_within 0 most_late late)))
     ∷ (codes "help", Optional [] (Help Commands) (λ word. option_map Help (named pages word)))
     ∷ (codes "version", Nothing Version)

@@ -15,7 +15,7 @@ use Rattle.time_codes.specs.declared.time_code.TimeCode.{TimeCode}
 use Rattle.words_files.specs.Frames.{IsFileOf}
 use Rattle.words_files.specs.Offences.{IsFileUnder}
 use Rattle.scc_commands.specs.ComeBack.{PairsComeBack, StandAgain}
-use Rattle.scc_commands.specs.Export.{AreExported, ExportVerdict, export_file, exported}
+use Rattle.scc_commands.specs.Export.{AreExported, ExportVerdict, export_file, exported_from}
 use Rattle.scc_commands.specs.Import.{ImportVerdict, IsImport, PlacedPairs, import_words}
 use Rattle.scc_commands.proofs.ExportedFileLemmas.{exported_are_writable, exported_is_placed}
 use Rattle.scc_commands.proofs.ImportLemmas.{carried_import}
@@ -49,11 +49,11 @@ imported_once time text others pairs is (made, imported, spelled, carried) =
 exported_back : (time : TimeCode) (frames : List Frame) (bytes text : List ℕ) → IsFileOf frames bytes → AreExported time frames → text ≡ export_file time frames
     → length text ≤ whole_limit → StandAgain time frames text
 exported_back time frames bytes text file good spelled short =
-    let pairs = pairs_not_null (exported frames) in
+    let pairs = pairs_not_null (exported_from 0 frames) in
     let is : IsImport (Some (frame_number time)) text pairs = record {
       within = short;
       file = subst (IsSccFile (Some (frame_number time)) pairs) (sym spelled) (exported_is_placed time frames bytes file good);
-      few = few_frames (frame_number time) time.drop_frame 0 0 (exported frames) (exported_are_writable time frames bytes file good) (omega arith);
+      few = few_frames (frame_number time) time.drop_frame 0 0 (exported_from 0 frames) (exported_are_writable time frames bytes file good) (omega arith);
     } in
     record {
       is = (pairs, is, refl, carried_import (Some (frame_number time)) text pairs is);

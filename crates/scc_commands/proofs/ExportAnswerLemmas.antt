@@ -30,8 +30,8 @@ use Rattle.words_reading.specs.Reading.{Stops, StopsEarly as Stopped}
 use Rattle.words_reading.specs.Statuses.{stop_status}
 use Rattle.words_reading.specs.declared.frames.Frames.{Frames}
 use Rattle.words_reading.specs.declared.judge.Stop.{Stop}
-use Rattle.scc_commands.specs.Export.{AreExported, ExportHalts, ExportVerdict, export_file, export_front, exported}
-use Rattle.scc_commands.specs.Exporting.{ExportEnd, IsExportOf, StandsBehind, first_standing, reason_status}
+use Rattle.scc_commands.specs.Export.{AreExported, ExportVerdict, export_file, export_front, exported_from}
+use Rattle.scc_commands.specs.Exporting.{ExportEnd, ExportHalts, IsExportOf, StandsBehind, first_standing, reason_status}
 use Rattle.scc_commands.specs.declared.exporting.ExportStop.{ExportStop}
 use Rattle.scc_commands.specs.declared.exporting.ExportStop.TheVariants as reason
 use Rattle.scc_commands.specs.declared.exporting.Exporting.{Exporting}
@@ -104,7 +104,7 @@ end_put : (time : TimeCode) (reading : Frames Exporting) (first left start now t
     → Stops (IsFileOfExport time) (IsWholeFile first) answer (ends first reads start writes) (ends left later then last)
 end_put time reading first left start now then reads later writes began still last ending answer (steady, stops) is line =
     let had = stops.says in
-    let ends_so : ending ≡ end_text (stand_after (first_standing time) (exported had.frames)).behind = is ∙ ap (λ w. end_text w.behind) had.stands.writer in
+    let ends_so : ending ≡ end_text (stand_after (first_standing time) (exported_from 0 had.frames)).behind = is ∙ ap (λ w. end_text w.behind) had.stands.writer in
     record {
       judged = stops.judged;
       unjudged = stops.unjudged;

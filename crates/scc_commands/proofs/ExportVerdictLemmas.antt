@@ -21,8 +21,8 @@ use Rattle.findings.specs.declared.finding.Kind45.TheVariants as kind
 use Rattle.time_codes.specs.declared.time_code.TimeCode.{TimeCode}
 use Rattle.words_files.specs.FramesOf.{AreFramesOf}
 use Rattle.services_files.specs.CaptionChannel.{caption_channel}
-use Rattle.scc_commands.specs.Export.{AreExported, ExportHalts, ExportVerdict, HasFinding, HasNoFinding, StopsAtFrame, export_file, export_front, exported_from, pairs_of}
-use Rattle.scc_commands.specs.Exporting.{ExportEnd, IsExportOf, first_standing}
+use Rattle.scc_commands.specs.Export.{AreExported, ExportVerdict, HasFinding, HasNoFinding, StopsAtFrame, export_file, export_front, exported_from, pairs_of}
+use Rattle.scc_commands.specs.Exporting.{ExportEnd, ExportHalts, IsExportOf, first_standing}
 use Rattle.scc_commands.proofs.WrittenLemmas.{AreWithinDay, HaveNoFinding, at_number, exported_more, one_pair, passes_day}
 use Rattle.scc_commands.specs.Import.{PlacedPairs}
 

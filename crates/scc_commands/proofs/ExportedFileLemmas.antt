@@ -16,7 +16,7 @@ use Rattle.time_codes.specs.declared.time_code.TimeCode.{TimeCode}
 use Rattle.words_files.specs.Frames.{CarryFrames, IsFileOf}
 use Rattle.words_files.specs.Received.{field_pair}
 use Rattle.scc_files.proofs.RoundTrip.{written_is_file, written_is_placed}
-use Rattle.scc_commands.specs.Export.{AreExported, export_file, exported, exported_from, pairs_of}
+use Rattle.scc_commands.specs.Export.{AreExported, export_file, exported_from, pairs_of}
 use Rattle.scc_commands.proofs.WrittenLemmas.{AreWithinDay, HaveNoFinding, at_number}
 
 abbrev AreBytes : List ℕ → Type 0
@@ -124,16 +124,16 @@ exported_writable time number (frame ∷ frames) (are, have) (one, none) within 
     (λ rest. exported_writable time (suc number) frames have none rest)
 
 pub exported_are_writable : (time : TimeCode) (frames : List Frame) (bytes : List ℕ) → IsFileOf frames bytes → AreExported time frames
-    → AreWritable (frame_number time) time.drop_frame 0 (exported frames)
+    → AreWritable (frame_number time) time.drop_frame 0 (exported_from 0 frames)
 exported_are_writable time frames bytes file good =
     exported_writable time 0 frames (carried_bytes file.packets frames file.carried) good.no_finding good.within_day
 
 pub exported_is_file : (time : TimeCode) (frames : List Frame) (bytes : List ℕ) → IsFileOf frames bytes → AreExported time frames
-    → IsSccFile None (counted (pairs_not_null (exported frames))) (export_file time frames)
+    → IsSccFile None (counted (pairs_not_null (exported_from 0 frames))) (export_file time frames)
 exported_is_file time frames bytes file good =
-    written_is_file (exported frames) (frame_number time) time.drop_frame (exported_are_writable time frames bytes file good)
+    written_is_file (exported_from 0 frames) (frame_number time) time.drop_frame (exported_are_writable time frames bytes file good)
 
 pub exported_is_placed : (time : TimeCode) (frames : List Frame) (bytes : List ℕ) → IsFileOf frames bytes → AreExported time frames
-    → IsSccFile (Some (frame_number time)) (pairs_not_null (exported frames)) (export_file time frames)
+    → IsSccFile (Some (frame_number time)) (pairs_not_null (exported_from 0 frames)) (export_file time frames)
 exported_is_placed time frames bytes file good =
-    written_is_placed (exported frames) (frame_number time) time.drop_frame (exported_are_writable time frames bytes file good)
+    written_is_placed (exported_from 0 frames) (frame_number time) time.drop_frame (exported_are_writable time frames bytes file good)

@@ -10,7 +10,7 @@ use Rattle.line21_codes.specs.declared.pairs.Pair.{Pair}
 use Rattle.scc_files.specs.Pieces.{stand_after}
 use Rattle.scc_files.specs.Writing.{GivesPiece, Standing, piece_of, stand_behind, standing_of}
 use Rattle.time_codes.specs.declared.time_code.TimeCode.{TimeCode}
-use Rattle.scc_commands.specs.Export.{AreExported, HasNoFinding, StopsAtFrame, export_front, exported, pairs_of}
+use Rattle.scc_commands.specs.Export.{AreExported, HasNoFinding, StopsAtFrame, export_front, exported_from, pairs_of}
 use Rattle.scc_commands.specs.Exporting.{StandsBehind, first_standing}
 use Rattle.scc_commands.specs.declared.exporting.Exporting.{Exporting}
 use Rattle.scc_commands.proofs.WrittenLemmas.{exported_more, front_more, gathered_failed, gathered_more, passes_day, past_is, stand_frame}
@@ -29,19 +29,19 @@ frame_silent time start now held frames last export none is stands way = (
 
 -- what is written of its pair
 piece_is : (time : TimeCode) (frames : List Frame) (last : Frame) (pair : Pair) (w : Standing) (frame : ℕ) (piece : List ℕ) → pairs_of last ≡ pair ∷ []
-    → w ≡ stand_after (first_standing time) (exported frames) → frame ≡ length frames → piece ≡ piece_of w frame pair
+    → w ≡ stand_after (first_standing time) (exported_from 0 frames) → frame ≡ length frames → piece ≡ piece_of w frame pair
     → export_front time frames ++ piece ≡ export_front time (frames ++ last ∷ [])
 piece_is time frames last pair w frame piece is stands number given =
     ap (λ p. export_front time frames ++ p)
-    (given ∙ ap (λ v. piece_of v frame pair) stands ∙ ap (λ n. piece_of (stand_after (first_standing time) (exported frames)) n pair) number
-    ∙ sym (append-nil (piece_of (stand_after (first_standing time) (exported frames)) (length frames) pair)))
+    (given ∙ ap (λ v. piece_of v frame pair) stands ∙ ap (λ n. piece_of (stand_after (first_standing time) (exported_from 0 frames)) n pair) number
+    ∙ sym (append-nil (piece_of (stand_after (first_standing time) (exported_from 0 frames)) (length frames) pair)))
     ∙ sym (front_more time frames last (pair ∷ []) is)
 
 -- it stands within the day
-day_is : (time : TimeCode) (frames : List Frame) (pair : Pair) (w : Standing) (frame : ℕ) → w ≡ stand_after (first_standing time) (exported frames)
+day_is : (time : TimeCode) (frames : List Frame) (pair : Pair) (w : Standing) (frame : ℕ) → w ≡ stand_after (first_standing time) (exported_from 0 frames)
     → frame ≡ length frames → passes_day (first_standing time) (length frames) pair ≡ passes_day w frame pair
 day_is time frames pair w frame stands number =
-    sym (past_is time (exported frames) (length frames) pair)
+    sym (past_is time (exported_from 0 frames) (length frames) pair)
     ∙ ap (λ v. passes_day v (length frames) pair) (sym stands) ∙ ap (λ n. passes_day w n pair) (sym number)
 
 -- its pair was written
@@ -54,7 +54,7 @@ frame_written time start now then before after frames last old new pair frame pi
   record {
     are_exported = exported_more time frames last (pair ∷ []) is none (day_is time frames pair (standing_of old.writer) frame stands.writer number ∙ fits, tt) stands.are_exported;
     writer = moved ∙ ap (λ v. stand_behind v frame pair) stands.writer
-        ∙ ap (λ n. stand_behind (stand_after (first_standing time) (exported frames)) n pair) number ∙ sym (stand_frame time frames last (pair ∷ []) is);
+        ∙ ap (λ n. stand_behind (stand_after (first_standing time) (exported_from 0 frames)) n pair) number ∙ sym (stand_frame time frames last (pair ∷ []) is);
   },
   subst (IsGathered start then after) (piece_is time frames last pair (standing_of old.writer) frame piece is stands.writer number given)
       (gathered_more start now then before after piece (export_front time frames) way gathers),

@@ -7,8 +7,8 @@ use Rattle.cc_base.specs.declared.refusal.Refusal.{Refusal}
 use Rattle.command_base.specs.declared.status.Place.TheVariants.{Byte}
 use Rattle.command_base.specs.declared.status.Status.{Status}
 use Rattle.command_base.specs.declared.status.Status.TheVariants as status
-use Rattle.scc_commands.proofs.ImportLemmas.{carried_import, import_refusals}
-use Rattle.scc_commands.specs.Import.{ImportVerdict, IsCarriedImport, IsImport, IsRefusedImport, PlacedPairs, import_words, most_import_frames, opening_of}
+use Rattle.scc_commands.proofs.ImportLemmas.{IsCarriedImport, carried_import, import_refusals}
+use Rattle.scc_commands.specs.Import.{ImportVerdict, IsImport, IsRefusedImport, PlacedPairs, import_words, most_import_frames, opening_of}
 use Rattle.time_codes.specs.declared.time_code.TimeCode.{TimeCode}
 use Rattle.scc_files.proofs.First.{first_offence}
 use Rattle.scc_files.proofs.Timed.{file_sound}

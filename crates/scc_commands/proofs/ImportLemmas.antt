@@ -14,7 +14,7 @@ use Rattle.line21_codes.specs.NullPairs.{null_pair}
 use Rattle.frame_carrier.specs.FrameBytes.{FrameBytes}
 use Rattle.frame_carrier.proofs.CarriedLemmas.{frames_carried}
 use Rattle.frame_carrier.proofs.CarryingLemmas.{quiet_bytes, quiet_roomy}
-use Rattle.frame_carrier.specs.Carried.{AreBytePairs, IsBytePair}
+use Rattle.frame_carrier.specs.Carried.{AreBytePairs, AreCarried, IsBytePair}
 use Rattle.frame_carrier.specs.Carrying.{IsAt, channel_packet, column_bytes, frame_bytes, packet_count}
 use Rattle.frame_carrier.specs.declared.carrier.Carrier.{Carrier}
 use Rattle.scc_files.specs.Reading.{frames_of, frames_to}
@@ -29,7 +29,7 @@ use Rattle.command_base.specs.WholeInput.{JudgesInput}
 use Rattle.command_base.specs.declared.status.Status.{Status}
 use Rattle.command_base.specs.declared.status.Status.TheVariants as status
 use Rattle.scc_commands.specs.Cursors.{Passes}
-use Rattle.scc_commands.specs.Import.{IsCarriedImport, IsImport, IsRefusedImport, PlacedPairs, ReadsImport, import_columns, import_words, pair_at}
+use Rattle.scc_commands.specs.Import.{IsImport, IsRefusedImport, PlacedPairs, ReadsImport, import_columns, import_words, pair_at}
 use Rattle.scc_commands.specs.ImportSteps.{ArePlaced, fault_status, frame_with}
 use Rattle.scc_commands.proofs.WrittenLemmas.{gathered_failed, gathered_more}
 
@@ -206,6 +206,10 @@ pair_bytes (placed ∷ pairs) frame (a, b, are) = chosen (placed.0 == frame) pla
 pub columns_bytes : (pairs : PlacedPairs) → AreBytes pairs → AreBytePairs (import_columns pairs)
 columns_bytes pairs are One frame = pair_bytes pairs frame are
 columns_bytes pairs are Two frame = record { a = omega arith; b = omega arith }
+
+-- the words of these pairs are a words file whose frames carry just the pairs
+abbrev pub IsCarriedImport : PlacedPairs → Type 0
+IsCarriedImport pairs = AreCarried rate.F2997 (import_columns pairs) (frames_of pairs)
 
 -- the words of a file within the limits carry just its pairs
 pub carried_import : (opening : Option ℕ) (bytes : List ℕ) (pairs : PlacedPairs) → IsImport opening bytes pairs → IsCarriedImport pairs

@@ -11,8 +11,9 @@ use Rattle.scc_files.proofs.Complete.{file_read}
 use Rattle.scc_files.proofs.Unique.{no_offence, offence_once}
 use Rattle.scc_files.specs.Reading.{frames_of, read_file}
 use Rattle.scc_files.specs.SccFiles.{IsSccFile}
-use Rattle.scc_commands.specs.Import.{ImportVerdict, IsCarriedImport, IsImport, IsRefusedImport, PlacedPairs, import_words, opening_of}
+use Rattle.scc_commands.specs.Import.{ImportVerdict, IsImport, IsRefusedImport, PlacedPairs, import_words, opening_of}
 use Rattle.time_codes.specs.declared.time_code.TimeCode.{TimeCode}
+use Rattle.scc_commands.proofs.ImportLemmas.{IsCarriedImport}
 
 -- the bytes of a file are one of pairs alone
 same_ok : (one other : PlacedPairs) (r : Result PlacedPairs Refusal) → r ≡ Ok one → r ≡ Ok other → one ≡ other

@@ -26,7 +26,7 @@ use Rattle.time_codes.specs.Frames.{frame_number}
 use Rattle.time_codes.specs.declared.time_code.TimeCode.{TimeCode}
 use Rattle.words_reading.proofs.WayLemmas.{way_unwritten}
 use Rattle.scc_commands.specs.Import.{PlacedPairs}
-use Rattle.scc_commands.specs.Export.{AreExported, HasNoFinding, export_file, export_front, exported, exported_from, pairs_of}
+use Rattle.scc_commands.specs.Export.{AreExported, HasNoFinding, export_file, export_front, exported_from, pairs_of}
 use Rattle.scc_commands.specs.Exporting.{first_standing}
 
 -- pairs at one frame
@@ -60,7 +60,7 @@ one_frame_more number (frame ∷ frames) last =
 plus_none : (n : ℕ) → 0 + n ≡ n
 plus_none n = omega arith
 
-one_more : (frames : List Frame) (last : Frame) → exported (frames ++ last ∷ []) ≡ exported frames ++ at_number (length frames) (pairs_of last)
+one_more : (frames : List Frame) (last : Frame) → exported_from 0 (frames ++ last ∷ []) ≡ exported_from 0 frames ++ at_number (length frames) (pairs_of last)
 one_more frames last = one_frame_more 0 frames last ∙ ap (λ n. exported_from 0 frames ++ at_number n (pairs_of last)) (plus_none (length frames))
 
 -- what is written of pairs and of more
@@ -89,43 +89,43 @@ pub exported_more : (time : TimeCode) (frames : List Frame) (last : Frame) (pair
 exported_more time frames last pairs is none within are = record {
   no_finding = no_finding_more frames last are.no_finding none;
   within_day = subst (AreWithinDay time) (sym (one_more frames last))
-      (within_more time (exported frames) (at_number (length frames) (pairs_of last)) are.within_day
+      (within_more time (exported_from 0 frames) (at_number (length frames) (pairs_of last)) are.within_day
       (subst (λ l. AreWithinDay time (at_number (length frames) l)) (sym is) within));
 }
 
 -- what was put of frames, piece by piece
 abbrev pub put_front : TimeCode → List Frame → List ℕ
-put_front time frames = head_text ++ pieces (first_standing time) (exported frames)
+put_front time frames = head_text ++ pieces (first_standing time) (exported_from 0 frames)
 
 front_put : (time : TimeCode) (frames : List Frame) → put_front time frames ≡ export_front time frames
-front_put time frames = front_is (frame_number time) time.drop_frame (exported frames)
+front_put time frames = front_is (frame_number time) time.drop_frame (exported_from 0 frames)
 
 put_more : (time : TimeCode) (frames : List Frame) (last : Frame) (pairs : List Pair) → pairs_of last ≡ pairs
     → put_front time (frames ++ last ∷ [])
-    ≡ put_front time frames ++ pieces (stand_after (first_standing time) (exported frames)) (at_number (length frames) pairs)
+    ≡ put_front time frames ++ pieces (stand_after (first_standing time) (exported_from 0 frames)) (at_number (length frames) pairs)
 put_more time frames last pairs is =
     ap (λ l. head_text ++ pieces (first_standing time) l) (one_more frames last)
-    ∙ ap (λ l. head_text ++ l) (pieces_more (exported frames) (at_number (length frames) (pairs_of last)) (first_standing time))
-    ∙ sym (append_assoc head_text (pieces (first_standing time) (exported frames))
-    (pieces (stand_after (first_standing time) (exported frames)) (at_number (length frames) (pairs_of last))))
-    ∙ ap (λ l. put_front time frames ++ pieces (stand_after (first_standing time) (exported frames)) (at_number (length frames) l)) is
+    ∙ ap (λ l. head_text ++ l) (pieces_more (exported_from 0 frames) (at_number (length frames) (pairs_of last)) (first_standing time))
+    ∙ sym (append_assoc head_text (pieces (first_standing time) (exported_from 0 frames))
+    (pieces (stand_after (first_standing time) (exported_from 0 frames)) (at_number (length frames) (pairs_of last))))
+    ∙ ap (λ l. put_front time frames ++ pieces (stand_after (first_standing time) (exported_from 0 frames)) (at_number (length frames) l)) is
 
 -- the text of a frame more
 pub front_more : (time : TimeCode) (frames : List Frame) (last : Frame) (pairs : List Pair) → pairs_of last ≡ pairs
     → export_front time (frames ++ last ∷ [])
-    ≡ export_front time frames ++ pieces (stand_after (first_standing time) (exported frames)) (at_number (length frames) pairs)
+    ≡ export_front time frames ++ pieces (stand_after (first_standing time) (exported_from 0 frames)) (at_number (length frames) pairs)
 front_more time frames last pairs is =
     sym (front_put time (frames ++ last ∷ [])) ∙ put_more time frames last pairs is
-    ∙ ap (λ (l : List ℕ). l ++ pieces (stand_after (first_standing time) (exported frames)) (at_number (length frames) pairs)) (front_put time frames)
+    ∙ ap (λ (l : List ℕ). l ++ pieces (stand_after (first_standing time) (exported_from 0 frames)) (at_number (length frames) pairs)) (front_put time frames)
 
 -- where a frame more leads
 pub stand_frame : (time : TimeCode) (frames : List Frame) (last : Frame) (pairs : List Pair) → pairs_of last ≡ pairs
-    → stand_after (first_standing time) (exported (frames ++ last ∷ []))
-    ≡ stand_after (stand_after (first_standing time) (exported frames)) (at_number (length frames) pairs)
+    → stand_after (first_standing time) (exported_from 0 (frames ++ last ∷ []))
+    ≡ stand_after (stand_after (first_standing time) (exported_from 0 frames)) (at_number (length frames) pairs)
 stand_frame time frames last pairs is =
     ap (stand_after (first_standing time)) (one_more frames last)
-    ∙ stand_more (exported frames) (at_number (length frames) (pairs_of last)) (first_standing time)
-    ∙ ap (λ l. stand_after (stand_after (first_standing time) (exported frames)) (at_number (length frames) l)) is
+    ∙ stand_more (exported_from 0 frames) (at_number (length frames) (pairs_of last)) (first_standing time)
+    ∙ ap (λ l. stand_after (stand_after (first_standing time) (exported_from 0 frames)) (at_number (length frames) l)) is
 
 -- the day of a writer stays
 pub record HasDay (w v : Standing) : Type 0 where
@@ -166,13 +166,13 @@ gathered_failed a b c held piece all way failed =
     puts_stop a c all piece (way_unwritten a b c held all way failed)
 
 -- the front of a file and what ends it are the file
-pub front_and_end : (time : TimeCode) (frames : List Frame) → export_front time frames ++ ending (stretches_of (exported frames)) ≡ export_file time frames
-front_and_end time frames = front_ended (frame_number time) time.drop_frame (exported frames)
+pub front_and_end : (time : TimeCode) (frames : List Frame) → export_front time frames ++ ending (stretches_of (exported_from 0 frames)) ≡ export_file time frames
+front_and_end time frames = front_ended (frame_number time) time.drop_frame (exported_from 0 frames)
 
 pub file_ends : (time : TimeCode) (frames : List Frame)
-    → export_front time frames ++ end_text (stand_after (first_standing time) (exported frames)).behind ≡ export_file time frames
+    → export_front time frames ++ end_text (stand_after (first_standing time) (exported_from 0 frames)).behind ≡ export_file time frames
 file_ends time frames =
-    ap (λ (l : List ℕ). export_front time frames ++ l) (ends_first (frame_number time) time.drop_frame (exported frames)) ∙ front_and_end time frames
+    ap (λ (l : List ℕ). export_front time frames ++ l) (ends_first (frame_number time) time.drop_frame (exported_from 0 frames)) ∙ front_and_end time frames
 
 -- the one pair of a list that has no more
 pub one_pair : (pairs : List Pair) (pair : Pair) (rest : List Pair) → pairs ≡ pair ∷ rest → length pairs ≤ 1 → pairs ≡ pair ∷ []

@@ -8,12 +8,12 @@ use Rattle.scc_files.specs.Written.{pairs_not_null}
 use Rattle.services_files.specs.CaptionChannel.{caption_channel}
 use Rattle.time_codes.specs.declared.time_code.TimeCode.{TimeCode}
 use Rattle.words_files.specs.Offences.{IsFileUnder}
-use Rattle.scc_commands.specs.Export.{ExportVerdict, exported}
+use Rattle.scc_commands.specs.Export.{ExportVerdict, exported_from}
 use Rattle.scc_commands.specs.Import.{ImportVerdict, import_words}
 
 -- the words that carry the pairs of frames that aren't null, each in the frame of its number
 abbrev pub words_of_pairs : List Frame → List ℕ
-words_of_pairs frames = import_words (pairs_not_null (exported frames))
+words_of_pairs frames = import_words (pairs_not_null (exported_from 0 frames))
 
 -- with this time code `import` makes these words of the text, with the answer Ok, and no others
 pub record StandAgain (time : TimeCode) (frames : List Frame) (text : List ℕ) : Type 0 where

@@ -30,17 +30,13 @@ abbrev pub exported_from : ℕ → List Frame → PlacedPairs
 exported_from number [] = []
 exported_from number (frame ∷ frames) = map (λ pair. (number, pair)) (pairs_of frame) ++ exported_from (suc number) frames
 
--- the field 1 pairs of a file's frames
-abbrev pub exported : List Frame → PlacedPairs
-exported frames = exported_from 0 frames
-
 -- the SCC file of frames, in its written form
 abbrev pub export_file : TimeCode → List Frame → List ℕ
-export_file time frames = written_file (frame_number time) time.drop_frame (exported frames)
+export_file time frames = written_file (frame_number time) time.drop_frame (exported_from 0 frames)
 
 -- the same without what ends it, the two line ends after its last line
 abbrev pub export_front : TimeCode → List Frame → List ℕ
-export_front time frames = written_front (frame_number time) time.drop_frame (exported frames)
+export_front time frames = written_front (frame_number time) time.drop_frame (exported_from 0 frames)
 
 -- nothing is found at a frame: it has the rate 29.97 and at most one pair of field 1
 pub record HasNoFinding (frame : Frame) : Type 0 where
@@ -56,7 +52,7 @@ HasFinding frame _ = ⊥
 -- frames that are exported: nothing is found at any, and no pair that isn't null stands at or past the end of the day of frame 0
 pub record AreExported (time : TimeCode) (frames : List Frame) : Type 0 where
   pub no_finding : AllByRecursion HasNoFinding frames
-  pub within_day : AllByRecursion (λ (placed : ℕ × Pair). is_past_day (frame_number time) time.drop_frame placed.0 placed.1 ≡ false) (exported frames)
+  pub within_day : AllByRecursion (λ (placed : ℕ × Pair). is_past_day (frame_number time) time.drop_frame placed.0 placed.1 ≡ false) (exported_from 0 frames)
 
 -- an export stops at the frame of this number with this status: something is found at it; or nothing is, and its pair isn't null and
 -- stands at or past the end of the day
@@ -66,12 +62,10 @@ StopsAtFrame time number frame (status.Limit limit.Day) =
     HasNoFinding frame × (pair : Pair) × (pairs_of frame ≡ pair ∷ []) × (is_past_day (frame_number time) time.drop_frame number pair ≡ true)
 StopsAtFrame time number frame _ = ⊥
 
--- bytes, none of whose words offends, end with the first frame at which an export stops, and this is the text of the frames before
-abbrev pub ExportHalts : TimeCode → Status → List ℕ → List ℕ → Type 0
-ExportHalts time answer = FramesHalt (export_front time) (AreExported time) (λ frames last. StopsAtFrame time (length frames) last answer)
-
--- `export`, where frame 0 has this time code: a words file whose frames are exported ends well, with their whole SCC file
+-- `export`, where frame 0 has this time code: a words file whose frames are exported ends well, with their whole SCC file; and bytes, none
+-- of whose words offends, that end with the first frame at which an export stops have the text of the frames before it
 abbrev pub ExportVerdict : TimeCode → List ℕ → Status → List ℕ → Type 0
 ExportVerdict time =
     WordsVerdict (EndsWell (λ frames text. AreExported time frames × (text ≡ export_file time frames)))
-    (FramesSay (export_front time) (AreExported time)) (ExportHalts time)
+    (FramesSay (export_front time) (AreExported time))
+    (λ answer. FramesHalt (export_front time) (AreExported time) (λ frames last. StopsAtFrame time (length frames) last answer))

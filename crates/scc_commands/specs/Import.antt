@@ -56,10 +56,6 @@ pub record IsImport (opening : Option ℕ) (bytes : List ℕ) (pairs : PlacedPai
   pub file : IsSccFile opening pairs bytes
   pub few : frames_of pairs ≤ most_import_frames
 
--- the words of these pairs are a words file whose frames carry just the pairs
-abbrev pub IsCarriedImport : PlacedPairs → Type 0
-IsCarriedImport pairs = AreCarried rate.F2997 (import_columns pairs) (frames_of pairs)
-
 -- the bytes are refused with this status: they are too many, an SCC file of too many frames, or none
 abbrev pub IsRefusedImport : Option ℕ → List ℕ → Status → Type 0
 IsRefusedImport opening bytes (status.Limit limit.Bytes) = whole_limit < length bytes
@@ -73,6 +69,9 @@ IsRefusedImport opening bytes _ = ⊥
 abbrev pub ReadsImport : Option ℕ → Option (List ℕ) → Option (List ℕ) → ℕ → ℕ → Result PlacedPairs Status → Type 0
 ReadsImport opening old new before now result = ReadsInput (IsImport opening) (IsRefusedImport opening) old new before now result
 
--- `import`, where frame 0 has this time code, or that of the first line
+-- `import`, where frame 0 has this time code, or that of the first line: the words of the pairs are a words file whose frames carry just
+-- these
 abbrev pub ImportVerdict : Option TimeCode → List ℕ → Status → List ℕ → Type 0
-ImportVerdict time = MadeVerdict (IsImport (opening_of time)) import_words IsCarriedImport (IsRefusedImport (opening_of time))
+ImportVerdict time =
+    MadeVerdict (IsImport (opening_of time)) import_words (λ pairs. AreCarried rate.F2997 (import_columns pairs) (frames_of pairs))
+    (IsRefusedImport (opening_of time))

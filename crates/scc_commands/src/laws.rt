@@ -8,7 +8,7 @@ ghost use Rattle.time_codes.specs.Frames.{frame_number};
 ghost use Rattle.time_codes.specs.declared.time_code.TimeCode.{TimeCode as Time};
 ghost use Rattle.words_files.specs.Frames.{IsFileOf};
 ghost use Rattle.scc_commands.specs.ComeBack.{PairsComeBack};
-ghost use Rattle.scc_commands.specs.Export.{AreExported, export_file, export_front, exported};
+ghost use Rattle.scc_commands.specs.Export.{AreExported, export_file, export_front, exported_from};
 ghost use Rattle.scc_commands.specs.Import.{PlacedPairs, import_packets};
 
 /// The law that the front of a file which `export` puts is the file without what ends it: the two line ends after its last line,
@@ -16,7 +16,7 @@ ghost use Rattle.scc_commands.specs.Import.{PlacedPairs, import_packets};
 pub fn front_and_end_are_the_file()
     ensures { (time : Time) (frames : List Frame)
         → export_front time frames
-        ++ ending (stretches_of (exported frames)) ≡ export_file time frames }
+        ++ ending (stretches_of (exported_from 0 frames)) ≡ export_file time frames }
 {}
 
 /// The law that what is imported is exported again: the words of an SCC file's pairs are exported as the written form of these pairs. So a
@@ -32,11 +32,11 @@ pub fn import_is_exported_again()
 pub fn exported_words_are_an_scc_file()
     ensures placed { (time : Time) (frames : List Frame) (bytes : List ℕ)
         → IsFileOf frames bytes → AreExported time frames
-        → IsSccFile (Some (frame_number time)) (pairs_not_null (exported frames))
+        → IsSccFile (Some (frame_number time)) (pairs_not_null (exported_from 0 frames))
         (export_file time frames) }
     ensures counted { (time : Time) (frames : List Frame) (bytes : List ℕ)
         → IsFileOf frames bytes → AreExported time frames
-        → IsSccFile None (counted (pairs_not_null (exported frames))) (export_file time frames) }
+        → IsSccFile None (counted (pairs_not_null (exported_from 0 frames))) (export_file time frames) }
 {}
 
 /// The law that what is exported and imported again with the same time code comes back at its place: of what `export` makes of words,

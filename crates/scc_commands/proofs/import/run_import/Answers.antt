@@ -2,8 +2,8 @@ use Rattle.std.proofs.Common.{Err, None}
 use Rattle.cc_base.specs.declared.streams.Put.TheVariants as put
 use Rattle.command_base.specs.Ends.{ends}
 use Rattle.command_base.proofs.MadeLemmas.{made_done, made_failed, read_refused}
-use Rattle.scc_commands.specs.Import.{IsCarriedImport, IsImport, IsRefusedImport, import_words, opening_of}
-use Rattle.scc_commands.proofs.ImportLemmas.{import_put, reads_alike}
+use Rattle.scc_commands.specs.Import.{IsImport, IsRefusedImport, import_words, opening_of}
+use Rattle.scc_commands.proofs.ImportLemmas.{IsCarriedImport, import_put, reads_alike}
 use Rattle.scc_commands.proofs.import.run_import.Goals as goal
 
 pub returns-in-Done : goal.returns-in-Done
