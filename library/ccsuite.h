@@ -6,7 +6,8 @@
  *
  * NOT HERE
  *   Frame after frame, one list is built (not two, and not with packets of extended data), and words are received and verified: insertion,
- *   conversion, extended data and files are whole runs alone. A receiver hears of no extended data.
+ *   conversion, extended data and files are whole runs alone. A receiver hears of no extended data. The command `fit` has no call, nor has `import`
+ *   with a time code.
  *
  * BYTES
  *   A cue list is the text that `ccsuite build` reads, a list of packets the one that `ccsuite xds` reads (docs/MANUAL.md). Words are ancillary

@@ -550,9 +550,10 @@ void *__wrap_realloc(void *block, size_t size) { return taken++ == refused ? NUL
     refused = -1
 
 static void refusals(void) {
-    static uint8_t words[10000], out[10000];
+    static uint8_t words[10000], out[10000], mcc[10000], load[100];
     const uint8_t *list = (const uint8_t *)HELLO;
-    size_t size = sizeof HELLO - 1;
+    const ccsuite_time hour = {1, 0, 0, 0, true};
+    size_t size = sizeof HELLO - 1, mcc_size;
     long count;
     ccsuite_report r;
     ccsuite_builder builder = {0};
@@ -563,6 +564,8 @@ static void refusals(void) {
     ccsuite_cell cell;
     ccsuite_changed changed;
     ccsuite_packet packet;
+    ccsuite_reason reason;
+    static ccsuite_cell cells[CCSUITE_GRID_CELLS];
     size_t written;
     CHECK(ccsuite_build(list, size, words, sizeof words, &r) == CCSUITE_OK);
     REFUSE(ccsuite_build(list, size, out, sizeof out, &r));
@@ -577,24 +580,37 @@ static void refusals(void) {
     REFUSE(ccsuite_convert(words, 4800, out, sizeof out, &r));
     REFUSE(ccsuite_xds(list, size, TEXT("xds,0,1,3,NEWS\n"), out, sizeof out, &r));
     REFUSE(ccsuite_dual(list, size, TEXT("ccsuite,1,29.97,30\n"), out, sizeof out, &r));
+    REFUSE(ccsuite_export(words, 4800, &hour, out, sizeof out, &r));
+    REFUSE(ccsuite_import(TEXT("Scenarist_SCC V1.0\n\n01:00:00;00\t9420 9420\n\n"), out, sizeof out, &r));
+    REFUSE(ccsuite_export_mcc(words, 4800, 30, &hour, mcc, sizeof mcc, &r));
+    mcc_size = r.written;
+    REFUSE(ccsuite_import_mcc(mcc, mcc_size, out, sizeof out, &r));
+    CHECK(r.written == 4800 && memcmp(words, out, 4800) == 0);
+    REFUSE(ccsuite_load(1, load, sizeof load, &r));
     REFUSE(ccsuite_builder_open(list, size, &builder, &r));
     REFUSE(ccsuite_receiver_open(&receiver, false));
     REFUSE(ccsuite_receiver_open(&receiver, true));
     REFUSE(ccsuite_receiver_changes(&receiver, out, sizeof out, &written));
     REFUSE(ccsuite_receiver_screens(&receiver, out, sizeof out, &written));
     REFUSE(ccsuite_verifier_open(list, size, &verifier, &r));
-    for (int n = 0; n < 30; n++) {
+    for (int n = 0; n < 29; n++) {
         TAKES_NONE(ccsuite_builder_next(&builder, out, sizeof out, &written));
         TAKES_NONE(ccsuite_receiver_feed(&receiver, out, written, &fed));
         TAKES_NONE(ccsuite_receiver_changed(&receiver, &changed));
         TAKES_NONE(ccsuite_verifier_feed(&verifier, out, written, &fed));
     }
+    TAKES_NONE(ccsuite_builder_next_cc_data(&builder, out, sizeof out, &written));
+    TAKES_NONE(ccsuite_cdp_from_words(words, 160, out, sizeof out, &written));
+    TAKES_NONE(ccsuite_words_from_cdp(out, written, mcc, sizeof mcc, &written));
     TAKES_NONE(ccsuite_cc_data_from_words(words, 160, out, sizeof out, &written, &packet));
     TAKES_NONE(ccsuite_words_from_cc_data(out, 60, 4, 0, out + 100, 1000, &written));
-    TAKES_NONE(ccsuite_receiver_feed_cc_data(&receiver, out, 60, 4, 30, &fed));
+    TAKES_NONE(ccsuite_receiver_feed_cc_data(&receiver, out, 60, 4, 29, &fed));
     TAKES_NONE(ccsuite_receiver_finish(&receiver, &fed));
     TAKES_NONE(ccsuite_receiver_frame(&receiver, &frame));
     TAKES_NONE(ccsuite_receiver_cell(&receiver, 1, 15, 0, &cell));
+    TAKES_NONE(ccsuite_receiver_grid(&receiver, 1, cells, CCSUITE_GRID_CELLS));
+    TAKES_NONE(ccsuite_reason_of(CCSUITE_WHY_GRID_DIFFERS, &reason));
+    TAKES_NONE(ccsuite_verifier_feed(&verifier, words + 4640, 160, &fed)); /* the last frame */
     TAKES_NONE(ccsuite_verifier_verdict(&verifier, &r));
     ccsuite_builder_close(&builder);
     ccsuite_receiver_close(&receiver);
