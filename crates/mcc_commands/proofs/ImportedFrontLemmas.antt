@@ -1,5 +1,6 @@
 -- The packets of a file that begins with a file: that file's, and perhaps more.
 use Rattle.std.proofs.Common.{◌≡◌, ℕ, ◌==◌, Bool, true, false, cond, List, [], ◌∷◌, ◌++◌, append_assoc, append-nil, Some, Ok, refl, ap, sym, ◌∙◌, subst}
+use Rattle.scc_files.specs.Phases.{is_blank}
 use Rattle.mcc_files.specs.MccFiles.{TimedPackets}
 use Rattle.mcc_files.specs.Reading.{State, at_first, behind_cr, ended_by_cr, ended_by_lf, ends, ends_at_lf, ends_in, ends_payload, in_phase, packet_of, payload_goes, placed_with, run, take_byte, taken, within}
 use Rattle.mcc_files.specs.declared.phase.Phase.{Phase}
@@ -58,12 +59,12 @@ behind_whole p bytes gives is = refl
 -- a byte within such a line
 whole_goes : (p : Phase) (s t : State) (byte : ℕ) → s.phase ≡ p → whole_line p s.payload.bytes ≡ true → within s p byte ≡ Ok t → given t ≡ placed_with s true
 whole_goes phase.Payload s t byte at whole is =
-    let moved : taken s (byte == 32) (in_phase s phase.Behind) ≡ Ok t =
-    subst (λ (w : Bool). cond w (taken s (byte == 32) (in_phase s phase.Behind)) (payload_goes s (step true s.payload byte)) ≡ Ok t) whole is in
-    let next = taken_so s (byte == 32) (in_phase s phase.Behind) t moved in
+    let moved : taken s (is_blank byte) (in_phase s phase.Behind) ≡ Ok t =
+    subst (λ (w : Bool). cond w (taken s (is_blank byte) (in_phase s phase.Behind)) (payload_goes s (step true s.payload byte)) ≡ Ok t) whole is in
+    let next = taken_so s (is_blank byte) (in_phase s phase.Behind) t moved in
     ap (λ (x : State). given x) (sym next.1)
 whole_goes phase.Behind s t byte at whole is =
-    let next = taken_so s (byte == 32) (in_phase s phase.Behind) t is in
+    let next = taken_so s (is_blank byte) (in_phase s phase.Behind) t is in
     ap (λ (x : State). given x) (sym next.1)
 whole_goes (phase.End packet) s t byte at whole is = absurd (cc)
 whole_goes p s t byte at whole is = absurd (cc)

@@ -5,7 +5,7 @@ use Rattle.cc_base.specs.declared.why.Why.TheVariants as why
 use Rattle.hex_digits.specs.HexDigits.{hex_value}
 use Rattle.time_codes.specs.Texts.{is_digit, time_of_text}
 use Rattle.scc_files.specs.Phases.{is_blank}
-use Rattle.mcc_files.specs.Lines.{format_text, is_letter, one as version_one}
+use Rattle.mcc_files.specs.Lines.{format_text, is_letter, is_name_byte, one as version_one}
 use Rattle.mcc_files.specs.MccFiles.{TimedPackets}
 use Rattle.mcc_files.specs.Phases.{matched, rate_count, rate_moved}
 use Rattle.mcc_files.specs.Readers.{item_in}
@@ -125,9 +125,9 @@ named_closed s t true false is = closed_at s (in_phase s (phase.Rate rate_text.E
 named_closed s t false some is = closed_at s (in_phase s phase.Value) t refl refl (ok_same (in_phase s phase.Value) t is)
 
 name_closed : (s t : State) (k byte : ℕ) (sign : Bool)
-    → cond sign (named s k) (taken s (is_letter byte || (byte == 32)) (in_phase s (phase.Name (matched k byte)))) ≡ Ok t → Closed s t
+    → cond sign (named s k) (taken s (is_name_byte byte) (in_phase s (phase.Name (matched k byte)))) ≡ Ok t → Closed s t
 name_closed s t k byte true is = named_closed s t (k == 14) (is_some s.count) is
-name_closed s t k byte false is = closed_taken s (is_letter byte || (byte == 32)) (in_phase s (phase.Name (matched k byte))) t refl refl is
+name_closed s t k byte false is = closed_taken s (is_name_byte byte) (in_phase s (phase.Name (matched k byte))) t refl refl is
 
 rate_closed : (s t : State) (text : RateText) (found : Option RateText) (byte : ℕ) → rate_read s text found byte ≡ Ok t → Closed s t
 rate_closed s t text (Some to) byte is =
@@ -215,9 +215,9 @@ led_same : (p : Phase) (s one t : State) (byte : ℕ) → Led p s one byte → o
 led_same p s one t byte led same = subst (λ (x : State). Led p s x byte) same led
 
 payload_led : (s t : State) (byte : ℕ) → s.phase ≡ phase.Payload → (whole : Bool) → is_whole s.payload.bytes ≡ whole
-    → cond whole (taken s (byte == 32) (in_phase s phase.Behind)) (payload_goes s (step true s.payload byte)) ≡ Ok t → Led phase.Payload s t byte
+    → cond whole (taken s (is_blank byte) (in_phase s phase.Behind)) (payload_goes s (step true s.payload byte)) ≡ Ok t → Led phase.Payload s t byte
 payload_led s t byte at true whole is =
-    let (test, same) = taken_so s (byte == 32) (in_phase s phase.Behind) t is in
+    let (test, same) = taken_so s (is_blank byte) (in_phase s phase.Behind) t is in
     let none : item_bytes s.payload byte ≡ [] = fitting_whole s.payload.bytes (brought s.payload byte) whole in
     led_same phase.Payload s (in_phase s phase.Behind) t byte
     (record {
@@ -236,7 +236,7 @@ payload_led s t byte at false whole is =
 goes_led : (p : Phase) (s t : State) (byte : ℕ) → s.phase ≡ p → goes s p byte ≡ Ok t → Led p s t byte
 goes_led phase.Payload s t byte at is = payload_led s t byte at (is_whole s.payload.bytes) refl is
 goes_led phase.Behind s t byte at is =
-    let (test, same) = taken_so s (byte == 32) (in_phase s phase.Behind) t is in
+    let (test, same) = taken_so s (is_blank byte) (in_phase s phase.Behind) t is in
     led_same phase.Behind s (in_phase s phase.Behind) t byte
     (record { words = open_same s (in_phase s phase.Behind) [] [] (ap is_open at) refl refl (sym (append-nil s.payload.bytes)); placed = refl })
     same

@@ -26,11 +26,11 @@ line_is version count frame payload text below is = record {
   text = time_text count frame;
   past = [];
   payload_text = text;
-  spaces = [];
+  blanks = [];
   is_text = record { digits = two_digits count frame below; spelled = refl };
   is_past = none_past version;
   is_payload = is;
-  are_spaces = tt;
+  are_blanks = tt;
   spelled = ap (λ t. time_text count frame ++ (9 ∷ t)) (sym (append-nil text));
 }
 

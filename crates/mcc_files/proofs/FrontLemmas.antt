@@ -21,7 +21,7 @@ use Rattle.mcc_files.specs.declared.payload_reader.Offence.{Offence}
 use Rattle.mcc_files.proofs.FirstLemmas.{Stands, at_digit, at_item, stands_on}
 use Rattle.mcc_files.proofs.SoundLemmas.{packet_so, step_so}
 use Rattle.mcc_files.proofs.StepLemmas.{joined_is}
-use Rattle.mcc_files.specs.Lines.{AreDecimals, AreWithinLine, IsAttribute, IsComment, IsName, IsRate, IsReadPast, is_letter, rate_name}
+use Rattle.mcc_files.specs.Lines.{AreDecimals, AreWithinLine, IsAttribute, IsComment, IsName, IsRate, IsReadPast, is_letter, is_name_byte, rate_name}
 use Rattle.mcc_files.specs.Phases.{matched, rate_bytes, rate_count, rate_moved, whole_moved}
 use Rattle.mcc_files.specs.Reading.{State, begins_time, begun, in_phase, judged_frame, named, not_before, payload_begins, payload_goes, rate_read, taken, timed, within}
 use Rattle.mcc_files.specs.declared.phase.Phase.{Phase}
@@ -138,12 +138,12 @@ start_next s next t byte told is = elim (chosen (is_blank byte) (in_phase s phas
 ]
 
 -- the name of an attribute
-pub letters_more : (name : List ℕ) (byte : ℕ) → IsName name → (is_letter byte || (byte == 32)) ≡ true → IsName (name ++ byte ∷ [])
+pub letters_more : (name : List ℕ) (byte : ℕ) → IsName name → is_name_byte byte ≡ true → IsName (name ++ byte ∷ [])
 letters_more name byte is letter = record {
   first = is.first;
   more = is.more ++ byte ∷ [];
   letter = is.letter;
-  are = all_more (λ b. is_letter b || (b == 32)) is.more byte is.are letter;
+  are = all_more is_name_byte is.more byte is.are letter;
   spelled = ap (λ n. n ++ byte ∷ []) is.spelled;
 }
 
@@ -248,12 +248,12 @@ named_next s next t k front f false some whole some_is is =
     (ok_same (in_phase s phase.Value) next is)
 
 pub name_next : (s next : State) (t : Told) (k : ℕ) (front : List ℕ) (byte : ℕ) → NameFront k (told_of s) t front → (sign : Bool) → (byte == 61) ≡ sign
-    → cond sign (named s k) (taken s (is_letter byte || (byte == 32)) (in_phase s (phase.Name (matched k byte)))) ≡ Ok next
+    → cond sign (named s k) (taken s (is_name_byte byte) (in_phase s (phase.Name (matched k byte)))) ≡ Ok next
     → Next s t (front ++ byte ∷ []) next
 name_next s next t k front byte f true sign is =
     subst (λ (b : ℕ). Next s t (front ++ b ∷ []) next) (sym (eqb-true byte 61 sign)) (named_next s next t k front f (k == 14) (is_some s.count) refl refl is)
 name_next s next t k front byte f false sign is =
-    let (test, same) = taken_so s (is_letter byte || (byte == 32)) (in_phase s (phase.Name (matched k byte))) next is in
+    let (test, same) = taken_so s (is_name_byte byte) (in_phase s (phase.Name (matched k byte))) next is in
     at_next s t (front ++ byte ∷ []) (in_phase s (phase.Name (matched k byte))) next
     (record {
       line = record { is_name = letters_more front byte f.is_name test; none = f.none; told = f.told; matches = matches_more k byte front f.matches };
@@ -576,9 +576,9 @@ goes_so s next (Ok to) is = (to, refl, ok_same (record s { payload = to }) next 
 goes_so s next (Err offence) is = absurd (cc)
 
 pub payload_next : (s next : State) (t : Told) (front : List ℕ) (byte : ℕ) → s.phase ≡ phase.Payload → PayloadFront s.two s.payload (told_of s) t front → (whole : Bool) → is_whole s.payload.bytes ≡ whole
-    → cond whole (taken s (byte == 32) (in_phase s phase.Behind)) (payload_goes s (step true s.payload byte)) ≡ Ok next → Next s t (front ++ byte ∷ []) next
+    → cond whole (taken s (is_blank byte) (in_phase s phase.Behind)) (payload_goes s (step true s.payload byte)) ≡ Ok next → Next s t (front ++ byte ∷ []) next
 payload_next s next t front byte at f true whole is =
-    let (test, same) = taken_so s (byte == 32) (in_phase s phase.Behind) next is in
+    let (test, same) = taken_so s (is_blank byte) (in_phase s phase.Behind) next is in
     let w = stands_payload f.payload_text s.payload f.stands whole in
     at_next s t (front ++ byte ∷ []) (in_phase s phase.Behind) next
     (record {
@@ -586,13 +586,13 @@ payload_next s next t front byte at f true whole is =
         text = f.text;
         past = f.past;
         payload_text = f.payload_text;
-        spaces = byte ∷ [];
+        blanks = byte ∷ [];
         packet = w.packet;
         timed = f.timed;
         is_past = f.is_past;
         is_payload = w.is;
         bytes = w.bytes;
-        are_spaces = (eqb-true byte 32 test, tt);
+        are_blanks = (test, tt);
         spelled = ap (λ x. x ++ byte ∷ []) f.spelled
             ∙ (append_assoc f.text (f.past ++ (9 ∷ f.payload_text)) (byte ∷ []) ∙ ap (λ x. f.text ++ x) (append_assoc f.past (9 ∷ f.payload_text) (byte ∷ [])));
       };
@@ -686,24 +686,24 @@ within_next (phase.Digits many) s next t front byte at_is f lf cr is = elim (cho
 ]
 within_next phase.Payload s next t front byte at_is f lf cr is = payload_next s next t front byte at_is f (is_whole s.payload.bytes) refl is
 within_next phase.Behind s next t front byte at_is f lf cr is =
-    let (test, same) = taken_so s (byte == 32) (in_phase s phase.Behind) next is in
+    let (test, same) = taken_so s (is_blank byte) (in_phase s phase.Behind) next is in
     at_next s t (front ++ byte ∷ []) (in_phase s phase.Behind) next
     (record {
       line = record {
         text = f.text;
         past = f.past;
         payload_text = f.payload_text;
-        spaces = f.spaces ++ byte ∷ [];
+        blanks = f.blanks ++ byte ∷ [];
         packet = f.packet;
         timed = f.timed;
         is_past = f.is_past;
         is_payload = f.is_payload;
         bytes = f.bytes;
-        are_spaces = spaces_more f.spaces byte f.are_spaces (eqb-true byte 32 test);
+        are_blanks = blanks_more f.blanks byte f.are_blanks test;
         spelled = ap (λ x. x ++ byte ∷ []) f.spelled
-            ∙ (append_assoc f.text (f.past ++ (9 ∷ (f.payload_text ++ f.spaces))) (byte ∷ [])
-            ∙ ap (λ x. f.text ++ x) (append_assoc f.past (9 ∷ (f.payload_text ++ f.spaces)) (byte ∷ [])
-            ∙ ap (λ x. f.past ++ (9 ∷ x)) (append_assoc f.payload_text f.spaces (byte ∷ []))));
+            ∙ (append_assoc f.text (f.past ++ (9 ∷ (f.payload_text ++ f.blanks))) (byte ∷ [])
+            ∙ ap (λ x. f.text ++ x) (append_assoc f.past (9 ∷ (f.payload_text ++ f.blanks)) (byte ∷ [])
+            ∙ ap (λ x. f.past ++ (9 ∷ x)) (append_assoc f.payload_text f.blanks (byte ∷ []))));
       };
       version = refl;
     })

@@ -9,7 +9,7 @@ use Rattle.time_codes.specs.declared.counting.Counting.TheVariants as counting
 use Rattle.scc_files.specs.Lines.{AreBlanks, AreSpaces}
 use Rattle.scc_files.specs.Phases.{is_blank}
 use Rattle.mcc_files.specs.declared.payload_reader.Offence.{Offence}
-use Rattle.mcc_files.specs.Lines.{AreLettersAndSpaces, AreWithinLine, IsAttribute, IsComment, IsName, IsRate, is_letter, rate_name}
+use Rattle.mcc_files.specs.Lines.{AreNameBytes, AreWithinLine, IsAttribute, IsComment, IsName, IsRate, is_letter, is_name_byte, rate_name}
 use Rattle.mcc_files.specs.Phases.{matched}
 use Rattle.mcc_files.specs.Reading.{State, begun, ends, in_phase, run, started, take_byte, then_run, within}
 use Rattle.mcc_files.specs.declared.phase.Phase.{Phase}
@@ -132,13 +132,13 @@ letter_step s byte is none =
     let b = letter_byte byte is in
     goes_on (in_phase s phase.Start) byte (Ok (in_phase s (phase.Name (cond (byte == 84) 1 0)))) b.lf b.cr (letter_begun s byte b is none)
 
-pub name_byte : (byte : ℕ) → (is_letter byte || (byte == 32)) ≡ true → ((byte == 10) ≡ false) × ((byte == 13) ≡ false) × ((byte == 61) ≡ false)
+pub name_byte : (byte : ℕ) → is_name_byte byte ≡ true → ((byte == 10) ≡ false) × ((byte == 13) ≡ false) × ((byte == 61) ≡ false)
 name_byte byte is = (grind (arith, common_steps), grind (arith, common_steps), grind (arith, common_steps))
 
-pub name_goes : (s : State) (k byte : ℕ) → (byte == 61) ≡ false → (is_letter byte || (byte == 32)) ≡ true → within (in_phase s (phase.Name k)) (phase.Name k) byte ≡ Ok (in_phase s (phase.Name (matched k byte)))
+pub name_goes : (s : State) (k byte : ℕ) → (byte == 61) ≡ false → is_name_byte byte ≡ true → within (in_phase s (phase.Name k)) (phase.Name k) byte ≡ Ok (in_phase s (phase.Name (matched k byte)))
 name_goes s k byte sign is = rw (sign, is) refl
 
-pub name_step : (s : State) (k byte : ℕ) → (is_letter byte || (byte == 32)) ≡ true → take_byte (in_phase s (phase.Name k)) byte ≡ Ok (in_phase s (phase.Name (matched k byte)))
+pub name_step : (s : State) (k byte : ℕ) → is_name_byte byte ≡ true → take_byte (in_phase s (phase.Name k)) byte ≡ Ok (in_phase s (phase.Name (matched k byte)))
 name_step s k byte is =
     let (lf, cr, sign) = name_byte byte is in
     goes_on (in_phase s (phase.Name k)) byte (Ok (in_phase s (phase.Name (matched k byte)))) lf cr (name_goes s k byte sign is)
@@ -148,10 +148,10 @@ pub record NameRuns (s : State) (k : ℕ) (name more : List ℕ) : Type 0 where
   pub is : run (in_phase s (phase.Name k)) more ≡ Ok (in_phase s (phase.Name to))
   pub matches : NameMatches to (name ++ more)
 
-pub name_run : (s : State) (k : ℕ) (name more : List ℕ) → NameMatches k name → AreLettersAndSpaces more → NameRuns s k name more
+pub name_run : (s : State) (k : ℕ) (name more : List ℕ) → NameMatches k name → AreNameBytes more → NameRuns s k name more
 name_run s k name [] matches are = record { to = k; is = refl; matches = subst (λ (x : List ℕ). NameMatches k x) (sym (append-nil name)) matches }
 name_run s k name (x ∷ xs) matches are =
-    let (one, more) = both (is_letter x || (x == 32)) _ are in
+    let (one, more) = both (is_name_byte x) _ are in
     let r = name_run s (matched k x) (name ++ x ∷ []) xs (matches_more k x name matches) more in
     record {
       to = r.to;

@@ -94,11 +94,11 @@ front_line phase.Payload s t front gives f is =
         text = f.text;
         past = f.past;
         payload_text = f.payload_text;
-        spaces = [];
+        blanks = [];
         is_text = f.timed.is_text;
         is_past = f.is_past;
         is_payload = w.is;
-        are_spaces = tt;
+        are_blanks = tt;
         spelled = f.spelled ∙ ap (λ x. f.text ++ (f.past ++ (9 ∷ x))) (sym (append-nil f.payload_text));
       };
       tells = (f.timed.count, f.timed.frame, f.timed.counted, f.timed.framed, f.timed.after, told_packet s t f.timed.frame w.packet f.timed.told w.bytes);
@@ -111,11 +111,11 @@ front_line phase.Behind s t front gives f is =
         text = f.text;
         past = f.past;
         payload_text = f.payload_text;
-        spaces = f.spaces;
+        blanks = f.blanks;
         is_text = f.timed.is_text;
         is_past = f.is_past;
         is_payload = f.is_payload;
-        are_spaces = f.are_spaces;
+        are_blanks = f.are_blanks;
         spelled = f.spelled;
       };
       tells = (f.timed.count, f.timed.frame, f.timed.counted, f.timed.framed, f.timed.after, told_packet s t f.timed.frame f.packet f.timed.told f.bytes);

@@ -111,14 +111,14 @@ pub record BehindFront (second : Bool) (payload : Open) (now t : Told) (front : 
   pub text : List ℕ
   pub past : List ℕ
   pub payload_text : List ℕ
-  pub spaces : List ℕ
+  pub blanks : List ℕ
   pub packet : Payload
   pub timed : TimedBy now t text
   pub is_past : IsReadPast (version_of second) past
   pub is_payload : IsPayload packet payload_text
   pub bytes : payload.bytes ≡ payload_bytes packet
-  pub are_spaces : AreSpaces spaces
-  pub spelled : front ≡ text ++ (past ++ (9 ∷ (payload_text ++ spaces)))
+  pub are_blanks : AreBlanks blanks
+  pub spelled : front ≡ text ++ (past ++ (9 ∷ (payload_text ++ blanks)))
 
 pub record EndFront (gives second : Bool) (payload : Open) (now t : Told) (front : List ℕ) : Type 0 where
   pub bytes : gives ≡ true → payload.bytes ≡ payload_bytes (payload_in payload.bytes)

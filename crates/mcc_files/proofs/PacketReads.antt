@@ -1,5 +1,5 @@
 -- The lines of packets are read.
-use Rattle.std.proofs.Common.{◌≡◌, ℕ, ◌+◌, ◌≤◌, ◌<◌, ◌⊎◌, inl, inr, ◌==◌, ◌&&◌, nat_le, nat_lt, Bool, true, false, List, [], ◌∷◌, ◌++◌, append_assoc, length, Option, Some, Result, Ok, unwrap_or, refl, ap, sym, ◌∙◌, subst, arith}
+use Rattle.std.proofs.Common.{◌≡◌, ℕ, ◌+◌, ◌≤◌, ◌<◌, ◌⊎◌, inl, inr, ⊎_elim, ◌==◌, ◌&&◌, nat_le, nat_lt, Bool, true, false, List, [], ◌∷◌, ◌++◌, append_assoc, length, Option, Some, Result, Ok, unwrap_or, refl, ap, sym, ◌∙◌, subst, arith}
 use Rattle.std.proofs.lemmas.Bool.{cases_Bool, eqb-true}
 use Rattle.std.proofs.lemmas.Grind.{common_steps}
 use Rattle.time_codes.specs.Countings.{frame_in}
@@ -7,7 +7,8 @@ use Rattle.time_codes.specs.Texts.{HasTwoDigits, IsTimeText, is_digit, mark, one
 use Rattle.time_codes.proofs.TextLemmas.{both, ones_digit, spelled_is_read, tens_digit}
 use Rattle.time_codes.specs.declared.counting.Counting.{Counting}
 use Rattle.time_codes.specs.declared.time_code.TimeCode.{TimeCode}
-use Rattle.scc_files.specs.Lines.{AreSpaces}
+use Rattle.scc_files.specs.Lines.{AreBlanks}
+use Rattle.scc_files.specs.Phases.{is_blank}
 use Rattle.mcc_files.specs.Payloads.{Payload, checksum_byte, payload_bytes}
 use Rattle.mcc_files.specs.PayloadReading.{Open, is_whole, nothing_open, step, stepped}
 use Rattle.mcc_files.specs.declared.payload_reader.Offence.{Offence}
@@ -18,7 +19,7 @@ use Rattle.mcc_files.proofs.StepLemmas.{at_bytes, leads}
 use Rattle.mcc_files.specs.Lines.{AreDecimals, IsFieldPart, IsPacketLine, IsReadPast, is_letter}
 use Rattle.mcc_files.specs.Reading.{State, begins_time, begun, ends, in_phase, judged_frame, not_before, payload_begins, payload_goes, payload_read, run, take_byte, timed, within}
 use Rattle.mcc_files.specs.declared.phase.Phase.TheVariants as phase
-use Rattle.mcc_files.proofs.LineReads.{LineReads, goes_on, step_run}
+use Rattle.mcc_files.proofs.LineReads.{LineReads, blank_is, goes_on, step_run}
 use Rattle.mcc_files.proofs.OriginLemmas.{told_packet}
 use Rattle.mcc_files.proofs.Origins.{told_of, version_of}
 use Rattle.mcc_files.proofs.RunLemmas.{run_both, run_more}
@@ -248,19 +249,28 @@ payload_run [] s front to is = ap (λ f. Ok (in_payload s f)) is
 payload_run (byte ∷ text) s front to (next, one, more) =
     step_run (in_payload s front) (in_payload s next) (in_payload s to) byte text (payload_step s front next byte one) (payload_run text s next to more)
 
-pub whole_space : (s : State) (front : Open) (byte : ℕ) → is_whole front.bytes ≡ true → byte ≡ 32 → take_byte (in_payload s front) byte ≡ Ok (record s { phase = phase.Behind; payload = front })
-whole_space s front byte whole is =
-    subst (λ (b : ℕ). take_byte (in_payload s front) b ≡ Ok (record s { phase = phase.Behind; payload = front })) (sym is) (rw whole refl)
+pub whole_blank : (s : State) (front : Open) (byte : ℕ) → is_whole front.bytes ≡ true → is_blank byte ≡ true
+    → take_byte (in_payload s front) byte ≡ Ok (record s { phase = phase.Behind; payload = front })
+whole_blank s front byte whole is =
+    let here : (b : ℕ) → byte ≡ b → take_byte (in_payload s front) b ≡ Ok (record s { phase = phase.Behind; payload = front })
+    → take_byte (in_payload s front) byte ≡ Ok (record s { phase = phase.Behind; payload = front }) =
+    λ b same to. subst (λ (x : ℕ). take_byte (in_payload s front) x ≡ Ok (record s { phase = phase.Behind; payload = front })) (sym same) to in
+    ⊎_elim (λ tab. here 9 tab (rw whole refl)) (λ space. here 32 space (rw whole refl)) (blank_is byte is)
 
-pub behind_run : (s : State) (xs : List ℕ) → AreSpaces xs → run (in_phase s phase.Behind) xs ≡ Ok (in_phase s phase.Behind)
+pub behind_step : (s : State) (byte : ℕ) → is_blank byte ≡ true → take_byte (in_phase s phase.Behind) byte ≡ Ok (in_phase s phase.Behind)
+behind_step s byte is =
+    let here : (b : ℕ) → byte ≡ b → take_byte (in_phase s phase.Behind) b ≡ Ok (in_phase s phase.Behind) → take_byte (in_phase s phase.Behind) byte ≡ Ok (in_phase s phase.Behind) =
+    λ b same to. subst (λ (x : ℕ). take_byte (in_phase s phase.Behind) x ≡ Ok (in_phase s phase.Behind)) (sym same) to in
+    ⊎_elim (λ tab. here 9 tab refl) (λ space. here 32 space refl) (blank_is byte is)
+
+pub behind_run : (s : State) (xs : List ℕ) → AreBlanks xs → run (in_phase s phase.Behind) xs ≡ Ok (in_phase s phase.Behind)
 behind_run s [] are = refl
 behind_run s (x ∷ xs) are =
-    step_run (in_phase s phase.Behind) (in_phase s phase.Behind) (in_phase s phase.Behind) x xs
-    (subst (λ (b : ℕ). take_byte (in_phase s phase.Behind) b ≡ Ok (in_phase s phase.Behind)) (sym are.0) refl) (behind_run s xs are.1)
+    step_run (in_phase s phase.Behind) (in_phase s phase.Behind) (in_phase s phase.Behind) x xs (behind_step s x are.0) (behind_run s xs are.1)
 
-pub record PayloadEnds (s : State) (front : Open) (spaces : List ℕ) : Type 0 where
+pub record PayloadEnds (s : State) (front : Open) (blanks : List ℕ) : Type 0 where
   pub to : State
-  pub is : run (in_payload s front) spaces ≡ Ok to
+  pub is : run (in_payload s front) blanks ≡ Ok to
   pub may : ends to ≡ Some true
   pub told : told_of to ≡ told_of s
   pub payload : to.payload ≡ front
@@ -269,12 +279,12 @@ pub record PayloadEnds (s : State) (front : Open) (spaces : List ℕ) : Type 0 w
 pub payload_may : (s : State) (front : Open) → is_whole front.bytes ≡ true → ends (in_payload s front) ≡ Some true
 payload_may s front whole = rw whole refl
 
-pub payload_ends : (s : State) (front : Open) (spaces : List ℕ) → is_whole front.bytes ≡ true → AreSpaces spaces → PayloadEnds s front spaces
+pub payload_ends : (s : State) (front : Open) (blanks : List ℕ) → is_whole front.bytes ≡ true → AreBlanks blanks → PayloadEnds s front blanks
 payload_ends s front [] whole are = record { to = in_payload s front; is = refl; may = payload_may s front whole; told = refl; payload = refl; version = refl }
 payload_ends s front (x ∷ xs) whole are = record {
   to = record s { phase = phase.Behind; payload = front };
   is = step_run (in_payload s front) (record s { phase = phase.Behind; payload = front }) (record s { phase = phase.Behind; payload = front }) x xs
-      (whole_space s front x whole are.0) (behind_run (record s { payload = front }) xs are.1);
+      (whole_blank s front x whole are.0) (behind_run (record s { payload = front }) xs are.1);
   may = refl;
   told = refl;
   payload = refl;
@@ -294,14 +304,14 @@ packet_reads second s time payload text count frame u second_is p counted framed
     let body = payload_run p.payload_text at nothing_open bytes
     (under_leads true payload (checksum_byte payload) p.payload_text
     (record { items = p.is_payload.items; are = p.is_payload.are; stand_for = p.is_payload.stand_for; right = λ on. refl })) in
-    let e = payload_ends at bytes p.spaces (packet_whole payload (checksum_byte payload)) p.are_spaces in
+    let e = payload_ends at bytes p.blanks (packet_whole payload (checksum_byte payload)) p.are_blanks in
     let one = run_both start p.text (p.past ++ 9 ∷ []) at (payload_begins at) first past in
     let two_on = run_both start (p.text ++ (p.past ++ 9 ∷ [])) p.payload_text (payload_begins at) (in_payload at bytes) one body in
-    let all = run_both start ((p.text ++ (p.past ++ 9 ∷ [])) ++ p.payload_text) p.spaces (in_payload at bytes) e.to two_on e.is in
-    let texts : ((p.text ++ (p.past ++ 9 ∷ [])) ++ p.payload_text) ++ p.spaces ≡ text =
-    append_assoc (p.text ++ (p.past ++ 9 ∷ [])) p.payload_text p.spaces
-    ∙ (append_assoc p.text (p.past ++ 9 ∷ []) (p.payload_text ++ p.spaces)
-    ∙ (ap (λ x. p.text ++ x) (append_assoc p.past (9 ∷ []) (p.payload_text ++ p.spaces)) ∙ sym p.spelled)) in
+    let all = run_both start ((p.text ++ (p.past ++ 9 ∷ [])) ++ p.payload_text) p.blanks (in_payload at bytes) e.to two_on e.is in
+    let texts : ((p.text ++ (p.past ++ 9 ∷ [])) ++ p.payload_text) ++ p.blanks ≡ text =
+    append_assoc (p.text ++ (p.past ++ 9 ∷ [])) p.payload_text p.blanks
+    ∙ (append_assoc p.text (p.past ++ 9 ∷ []) (p.payload_text ++ p.blanks)
+    ∙ (ap (λ x. p.text ++ x) (append_assoc p.past (9 ∷ []) (p.payload_text ++ p.blanks)) ∙ sym p.spelled)) in
     record {
       to = e.to;
       gives = true;

@@ -21,7 +21,7 @@ use Rattle.mcc_files.specs.PayloadReading.{Open, is_whole, step}
 use Rattle.mcc_files.specs.declared.payload_reader.Offence.{Offence}
 use Rattle.mcc_files.proofs.FirstLemmas.{Refuses, Stands, at_digit, at_item, closed_of, item_why, of_byte, of_digits, of_letter, refused_by}
 use Rattle.mcc_files.proofs.StepLemmas.{joined_is}
-use Rattle.mcc_files.specs.Lines.{IsMccForm, format_text, is_letter, nothing, one, rate_name}
+use Rattle.mcc_files.specs.Lines.{IsMccForm, format_text, is_letter, is_name_byte, nothing, one, rate_name}
 use Rattle.mcc_files.specs.MccFiles.{IsMccFile, TimedPackets}
 use Rattle.mcc_files.specs.Offences.{BeginsMccFile, EndsNone, EndsUnit, IsFirstOffence, IsUnoffendingMcc, MccByteOffends, MccEndsEarly, mcc_line_why}
 use Rattle.mcc_files.specs.Phases.{matched, rate_count, rate_moved, why_in}
@@ -130,11 +130,11 @@ pub name_no_payload : (k : ℕ) → phase.Name k ≡ phase.Payload → ⊥
 name_no_payload k is = cc
 
 pub name_err : (before : List ℕ) (s : State) (line : InLine before s) (k byte : ℕ) (o : Offence) → s.phase ≡ phase.Name k → NameFront k (told_of s) line.told line.front → (sign : Bool) → (byte == 61) ≡ sign
-    → cond sign (named s k) (taken s (is_letter byte || (byte == 32)) (in_phase s (phase.Name (matched k byte)))) ≡ Err o → Kind before s byte o
+    → cond sign (named s k) (taken s (is_name_byte byte) (in_phase s (phase.Name (matched k byte)))) ≡ Err o → Kind before s byte o
 name_err before s line k byte o at f true sign is =
     subst (λ (b : ℕ). Kind before s b o) (sym (eqb-true byte 61 sign)) (named_err before s line k o at f (k == 14) (is_some s.count) refl is)
 name_err before s line k byte o at f false sign is =
-    plain_in before (phase.Name k) s byte o at (name_no_payload k) (taken_err s (is_letter byte || (byte == 32)) (in_phase s (phase.Name (matched k byte))) o is)
+    plain_in before (phase.Name k) s byte o at (name_no_payload k) (taken_err s (is_name_byte byte) (in_phase s (phase.Name (matched k byte))) o is)
 
 pub rate_err : (s : State) (text : RateText) (found : Option RateText) (byte : ℕ) (o : Offence) → rate_read s text found byte ≡ Err o → o ≡ record { back = 0; why = why_in s.phase }
 rate_err s text (Some next) byte o is = absurd (ok_no_err (record s { phase = phase.Rate next; count = rate_count next }) o is)
@@ -261,8 +261,8 @@ item_unit before s line byte o f (at_digit start' items digit first bytes text_i
     })))
 
 pub payload_err : (before : List ℕ) (s : State) (line : InLine before s) (byte : ℕ) (o : Offence) (f : PayloadFront s.two s.payload (told_of s) line.told line.front) → s.phase ≡ phase.Payload
-    → (whole : Bool) → is_whole s.payload.bytes ≡ whole → cond whole (taken s (byte == 32) (in_phase s phase.Behind)) (payload_goes s (step true s.payload byte)) ≡ Err o → Kind before s byte o
-payload_err before s line byte o f at true whole is = plain (taken_err s (byte == 32) (in_phase s phase.Behind) o is) (whole_no_letter s byte whole)
+    → (whole : Bool) → is_whole s.payload.bytes ≡ whole → cond whole (taken s (is_blank byte) (in_phase s phase.Behind)) (payload_goes s (step true s.payload byte)) ≡ Err o → Kind before s byte o
+payload_err before s line byte o f at true whole is = plain (taken_err s (is_blank byte) (in_phase s phase.Behind) o is) (whole_no_letter s byte whole)
 payload_err before s line byte o f at false whole is =
     let found = goes_err s (step true s.payload byte) o is in
     item_unit before s line byte o f f.stands whole at (refused_by s.payload byte o (is_whole s.payload.bytes) refl (closed_of f.payload_text s.payload f.stands) found)
@@ -302,7 +302,7 @@ within_err (phase.Digits many) before s byte o is f refused =
     plain_in before (phase.Digits many) s byte o is (λ same. cc)
     (taken_err s (nat_lt many 5 && is_digit byte) (in_phase s (phase.Digits (many + 1))) o (chosen_err (nat_lt 0 many && (byte == 9)) (payload_begins s) _ o refused))
 within_err phase.Payload before s byte o is f refused = payload_err before s f byte o (line_of phase.Payload before s is f) is (is_whole s.payload.bytes) refl refused
-within_err phase.Behind before s byte o is f refused = plain_in before phase.Behind s byte o is (λ same. cc) (taken_err s (byte == 32) (in_phase s phase.Behind) o refused)
+within_err phase.Behind before s byte o is f refused = plain_in before phase.Behind s byte o is (λ same. cc) (taken_err s (is_blank byte) (in_phase s phase.Behind) o refused)
 within_err (phase.End gives) before s byte o is f refused = plain_in before (phase.End gives) s byte o is (λ same. cc) (no_line_is s o refused)
 
 -- a line's end

@@ -194,11 +194,11 @@ packet_begins before s o text past payload_text rest payload timed is_past is sp
       text = text;
       past = past;
       payload_text = payload_text;
-      spaces = [];
+      blanks = [];
       is_text = timed.is_text;
       is_past = is_past;
       is_payload = is;
-      are_spaces = tt;
+      are_blanks = tt;
       spelled = spelled ∙ ap (λ x. text ++ (past ++ (9 ∷ x))) (sym (append-nil payload_text));
     })
     (timed.count, timed.frame, timed.counted, timed.framed, timed.after, refl)
@@ -243,11 +243,11 @@ front_begins before s o text past start items bytes timed is_past are is =
       text = text;
       past = past;
       payload_text = start ++ b.more;
-      spaces = [];
+      blanks = [];
       is_text = timed.is_text;
       is_past = is_past;
       is_payload = b.is;
-      are_spaces = tt;
+      are_blanks = tt;
       spelled = tail_on text past start b.more ∙ ap (λ x. text ++ (past ++ (9 ∷ x))) (sym (append-nil (start ++ b.more)));
     } in
     let u = record o.told { last = Some timed.frame; placed = o.told.placed ++ (timed.frame, b.payload) ∷ [] } in

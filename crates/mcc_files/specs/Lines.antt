@@ -46,16 +46,19 @@ pub record IsComment (bytes : List ℕ) : Type 0 where
 abbrev pub is_letter : ℕ → Bool
 is_letter byte = (nat_le 65 byte && nat_le byte 90) || (nat_le 97 byte && nat_le byte 122)
 
--- letters and spaces
-abbrev pub AreLettersAndSpaces : List ℕ → Type 0
-AreLettersAndSpaces bytes = list_all (λ byte. is_letter byte || (byte == 32)) bytes ≡ true
+-- a letter, a digit or a space
+abbrev pub is_name_byte : ℕ → Bool
+is_name_byte byte = is_letter byte || is_digit byte || (byte == 32)
 
--- the name of an attribute: a letter, and then letters and spaces
+abbrev pub AreNameBytes : List ℕ → Type 0
+AreNameBytes bytes = list_all is_name_byte bytes ≡ true
+
+-- the name of an attribute: a letter, and then letters, digits and spaces
 pub record IsName (name : List ℕ) : Type 0 where
   pub first : ℕ
   pub more : List ℕ
   pub letter : is_letter first ≡ true
-  pub are : AreLettersAndSpaces more
+  pub are : AreNameBytes more
   pub spelled : name ≡ first ∷ more
 
 -- the name of the time code rate
@@ -94,17 +97,17 @@ abbrev pub IsReadPast : Version → List ℕ → Type 0
 IsReadPast one bytes = bytes ≡ []
 IsReadPast two bytes = (bytes ≡ []) ⊎ IsFieldPart bytes
 
--- a packet: a time code's text, TAB, a payload and spaces
+-- a packet: a time code's text, TAB, a payload, and perhaps spaces and TABs
 pub record IsPacketLine (version : Version) (time : TimeCode) (payload : Payload) (bytes : List ℕ) : Type 0 where
   pub text : List ℕ
   pub past : List ℕ
   pub payload_text : List ℕ
-  pub spaces : List ℕ
+  pub blanks : List ℕ
   pub is_text : IsTimeText time text
   pub is_past : IsReadPast version past
   pub is_payload : IsPayload payload payload_text
-  pub are_spaces : AreSpaces spaces
-  pub spelled : bytes ≡ text ++ (past ++ (9 ∷ (payload_text ++ spaces)))
+  pub are_blanks : AreBlanks blanks
+  pub spelled : bytes ≡ text ++ (past ++ (9 ∷ (payload_text ++ blanks)))
 
 -- a line: blank or a comment, an attribute, the time code rate, or a packet
 abbrev pub IsMccLine : Version → Line → List ℕ → Type 0

@@ -9,7 +9,7 @@ use Rattle.time_codes.specs.Countings.{frame_in}
 use Rattle.time_codes.specs.Texts.{is_digit, time_of_text}
 use Rattle.time_codes.specs.declared.counting.Counting.{Counting}
 use Rattle.time_codes.specs.declared.time_code.TimeCode.{TimeCode}
-use Rattle.mcc_files.specs.Lines.{format_text, is_letter, one}
+use Rattle.mcc_files.specs.Lines.{format_text, is_letter, is_name_byte, one}
 use Rattle.mcc_files.specs.MccFiles.{TimedPackets}
 use Rattle.mcc_files.specs.Phases.{matched, rate_count, rate_moved, why_in}
 use Rattle.mcc_files.specs.declared.phase.Phase.{Phase}
@@ -133,7 +133,7 @@ named s matched =
 
 abbrev pub name_read : State → ℕ → ℕ → Result State Offence
 name_read s before byte =
-    if byte == 61 then named s before else taken s (is_letter byte || (byte == 32)) (in_phase s (phase.Name (matched before byte)))
+    if byte == 61 then named s before else taken s (is_name_byte byte) (in_phase s (phase.Name (matched before byte)))
 
 -- within the text of a count, or after it
 abbrev pub rate_read : State → RateText → Option RateText → ℕ → Result State Offence
@@ -183,7 +183,7 @@ payload_goes s (Err offence) = Err offence
 
 abbrev pub payload_read : State → ℕ → Result State Offence
 payload_read s byte =
-    if is_whole s.payload.bytes then taken s (byte == 32) (in_phase s phase.Behind) else payload_goes s (step true s.payload byte)
+    if is_whole s.payload.bytes then taken s (is_blank byte) (in_phase s phase.Behind) else payload_goes s (step true s.payload byte)
 
 -- a byte within a line
 abbrev pub goes : State → Phase → ℕ → Result State Offence
@@ -204,7 +204,7 @@ goes s phase.Dot byte = taken s ((byte == 48) || (byte == 49)) (in_phase s phase
 goes s phase.Field byte = taken s (byte == 44) (in_phase s (phase.Digits 0))
 goes s (phase.Digits count) byte = taken s (nat_lt count 5 && is_digit byte) (in_phase s (phase.Digits (count + 1)))
 goes s phase.Payload byte = payload_read s byte
-goes s phase.Behind byte = taken s (byte == 32) (in_phase s phase.Behind)
+goes s phase.Behind byte = taken s (is_blank byte) (in_phase s phase.Behind)
 goes s (phase.End packet) byte = no_line s
 
 abbrev pub within : State → Phase → ℕ → Result State Offence

@@ -1,6 +1,6 @@
 ghost use Rattle.std.specs.Prelude.{◌≡◌, ◌≤◌};
 ghost use Rattle.scc_files.specs.Phases.{is_blank};
-ghost use Rattle.mcc_files.specs.Lines.{is_letter, rate_name};
+ghost use Rattle.mcc_files.specs.Lines.{is_letter, is_name_byte, rate_name};
 ghost use Rattle.mcc_files.specs.Phases.{matched, rate_count, rate_moved, why_in};
 
 use cc_base::Why;
@@ -101,7 +101,7 @@ pub enum Phase {
     Digits(u8),
     /// In a payload.
     Payload,
-    /// After spaces that follow a payload.
+    /// After spaces and TABs that follow a payload.
     Behind,
     /// After the CR of a line's end; whether the line is a packet's.
     End(bool),
@@ -119,6 +119,13 @@ pub fn is_letter(byte: u8) -> bool
     ensures { result ≡ is_letter byte }
 {
     byte.is_ascii_alphabetic()
+}
+
+/// Whether the byte may stand in an attribute's name after its first letter: a letter, a digit or a space.
+pub fn is_name_byte(byte: u8) -> bool
+    ensures { result ≡ is_name_byte byte }
+{
+    byte.is_ascii_alphanumeric() || byte == b' '
 }
 
 /// How many bytes of the rate's name stand in a name with one byte more, where this many stood before; 0 in another name.

@@ -4,7 +4,7 @@ ghost use Rattle.mcc_files.specs.Phases.{HasNumbersInRange, most_text};
 ghost use Rattle.mcc_files.specs.Reading.{begins_time, judged_frame};
 ghost use Rattle.time_codes.specs.Texts.{time_of_text};
 
-use crate::phase::{Phase, RateText, is_blank, is_letter, matched};
+use crate::phase::{Phase, RateText, is_blank, is_letter, is_name_byte, matched};
 use crate::{Item, Offence, PayloadReader};
 use arrayvec::ArrayVec;
 use cc_base::Why;
@@ -257,10 +257,7 @@ impl MccReader {
         ensures { StepsTo (λ s. name_read s before byte) self.old self.new result }
     {
         if byte != b'=' {
-            return self.go_on_if(
-                is_letter(byte) || byte == b' ',
-                Phase::Name(matched(before, byte)),
-            );
+            return self.go_on_if(is_name_byte(byte), Phase::Name(matched(before, byte)));
         }
         if before != 14 {
             self.phase = Phase::Value;
@@ -312,12 +309,12 @@ impl MccReader {
         Ok(())
     }
 
-    // Takes a byte of a payload, or a space after it.
+    // Takes a byte of a payload, or a blank after it.
     fn payload_byte(&mut self, byte: u8) -> Result<(), Offence>
         ensures { StepsTo (λ s. payload_read s byte) self.old self.new result }
     {
         if self.payload.is_whole() {
-            return self.go_on_if(byte == b' ', Phase::Behind);
+            return self.go_on_if(is_blank(byte), Phase::Behind);
         }
         self.payload.take(byte)
     }
@@ -369,7 +366,7 @@ impl MccReader {
             Phase::Field => self.go_on_if(byte == b',', Phase::Digits(0)),
             Phase::Digits(count) => self.digit_byte(count, byte),
             Phase::Payload => self.payload_byte(byte),
-            Phase::Behind => self.go_on_if(byte == b' ', Phase::Behind),
+            Phase::Behind => self.go_on_if(is_blank(byte), Phase::Behind),
             Phase::End(_) => Err(self.no_line()),
         }
     }
