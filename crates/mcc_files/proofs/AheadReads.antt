@@ -3,7 +3,6 @@ use Rattle.std.proofs.Common.{◌≡◌, ℕ, ◌-◌, ◌≤◌, inl, inr, ◌=
 use Rattle.std.proofs.Math.Seq.{take-append_seam}
 use Rattle.std.proofs.lemmas.List.{take-append-drop}
 use Rattle.std.proofs.lemmas.List.Folds.{list_all-append}
-use Rattle.time_codes.specs.Countings.{frame_in}
 use Rattle.time_codes.specs.Texts.{IsTimeText, mark, ones, tens, time_of_text}
 use Rattle.time_codes.proofs.TextLemmas.{ones_digit, tens_digit}
 use Rattle.time_codes.specs.declared.counting.Counting.{Counting}
@@ -17,7 +16,7 @@ use Rattle.mcc_files.proofs.ReadLemmas.{under_leads}
 use Rattle.mcc_files.proofs.StepLemmas.{at_bytes, leads}
 use Rattle.mcc_files.proofs.WriteLemmas.{all_left, one_first}
 use Rattle.mcc_files.specs.Lines.{HaveNoLf}
-use Rattle.mcc_files.specs.MccFiles.{TimedPackets}
+use Rattle.mcc_files.specs.MccFiles.{TimedPackets, frame_after}
 use Rattle.mcc_files.specs.Reading.{State, in_phase, judged_frame, payload_begins, payload_in, run, started}
 use Rattle.mcc_files.specs.Readers.{IsBehindLine, is_at_start, packet_in, state_of}
 use Rattle.mcc_files.specs.declared.phase.Phase.{Phase}
@@ -85,13 +84,13 @@ payload_leads payload text is =
     under_leads true payload (checksum_byte payload) text (record { items = is.items; are = is.are; stand_for = is.stand_for; right = λ on. refl })
 
 packet_run : (s : State) (count : Counting) (frame : ℕ) (t : TimeCode) (payload : Payload) (time text end : List ℕ) → IsTimeText t time → s.count ≡ Some count
-    → frame_in count t ≡ Ok frame → unwrap_or s.last 0 ≤ frame → IsPayload payload text → IsLineEnd end
+    → frame_after count (unwrap_or s.last 0) t ≡ Ok frame → IsPayload payload text → IsLineEnd end
     → run (in_phase s phase.Start) (((time ++ 9 ∷ []) ++ text) ++ end) ≡ Ok (behind_packet s time frame (at_bytes (payload_bytes payload)))
-packet_run s count frame t payload time text end is_time counted framed after is_payload is_end =
+packet_run s count frame t payload time text end is_time counted framed is_payload is_end =
     let start = in_phase s phase.Start in
     let at = at_time s time frame in
     let whole = in_payload at (at_bytes (payload_bytes payload)) in
-    let first = time_text_read s count frame t time is_time counted framed after in
+    let first = time_text_read s count frame t time is_time counted framed in
     let tab : run at (9 ∷ []) ≡ Ok (payload_begins at) = run_one at 9 (payload_begins at) refl in
     let body = payload_run text at nothing_open (at_bytes (payload_bytes payload)) (payload_leads payload text is_payload) in
     let last = end_read whole true end (payload_may at (at_bytes (payload_bytes payload)) (packet_whole payload (checksum_byte payload))) is_end in
@@ -126,7 +125,7 @@ pub line_behind : (old new : MccReader) (bytes time text behind after end : List
     → judged_frame old.count old.last (time_of_text time) ≡ Ok frame → (ahead : IsBehindPayload text behind new.payload) → IsLineEnd end → behind ≡ end ++ after
     → StandsBehind old time frame (at_bytes (payload_bytes ahead.payload)) new → count ≡ length bytes - length after → IsBehindLine old bytes count new
 line_behind old new bytes time text behind after end frame count begins spelled judged ahead is_end more stands count_is =
-    let (t, counting, is_time, counted, framed, after_last) = time_of_some time (time_of_text time) refl old.count old.last frame judged in
+    let (t, counting, is_time, counted, framed) = time_of_some time (time_of_text time) refl old.count old.last frame judged in
     let line = ((time ++ 9 ∷ []) ++ ahead.front) ++ end in
     let regroup : line ++ after ≡ time ++ (9 ∷ (ahead.front ++ (end ++ after))) = simp append_assoc in
     let all : bytes ≡ line ++ after =
@@ -144,7 +143,7 @@ line_behind old new bytes time text behind after end frame count begins spelled 
       no_lf = l.no_lf;
       goes = λ placed.
           let s = state_of old placed in
-          let reads = packet_run s counting frame t ahead.payload time ahead.front end is_time counted framed after_last ahead.is is_end in
+          let reads = packet_run s counting frame t ahead.payload time ahead.front end is_time counted framed ahead.is is_end in
           let to = same_state old new time frame (at_bytes (payload_bytes ahead.payload)) placed stands in
           subst (λ (x : List ℕ). run s x ≡ Ok (state_of new (placed ++ packet_in new ∷ []))) (sym taken)
           (subst (λ (p : Phase). run (in_phase s p) line ≡ Ok (state_of new (placed ++ packet_in new ∷ []))) (sym (at_start old.phase begins)) (reads ∙ ap (λ x. Ok x) to));

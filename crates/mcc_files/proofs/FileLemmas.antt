@@ -7,7 +7,7 @@ use Rattle.mcc_files.specs.MccFiles.{IsMccFile, SayCounted, SayPackets, TimedPac
 use Rattle.mcc_files.specs.Writing.{AreWritable, AreWrittenLines, IsWrittenFile, time_text, written_attributes, written_head, written_version}
 use Rattle.mcc_files.specs.Payloads.{IsPayload, Payload}
 use Rattle.mcc_files.proofs.WrittenLemmas.{written_is_payload}
-use Rattle.mcc_files.proofs.TimeLemmas.{colon_time, frame_again, two_digits}
+use Rattle.mcc_files.proofs.TimeLemmas.{colon_time, frame_on_day, two_digits}
 
 -- what the lines of packets say, and the empty one after them
 pub packet_lines : Counting → TimedPackets → List Line
@@ -62,13 +62,13 @@ pub lines_say : (count : Counting) (last : ℕ) (placed : TimedPackets) → AreW
 unfolding packet_lines
 lines_say count last [] fit = refl
 lines_say count last (placed ∷ more) (above, below, small, fit) =
-    (placed.0, more, frame_again count placed.0 below, above, lines_say count placed.0 more fit, refl)
+    (placed.0, more, frame_on_day count last placed.0 above below, lines_say count placed.0 more fit, refl)
 
 pub counted_say : (count : Counting) (placed : TimedPackets) → AreWritable count 0 placed → SayCounted count (packet_lines count placed) placed
 unfolding packet_lines
 counted_say count [] fit = refl
 counted_say count (placed ∷ more) (above, below, small, fit) =
-    (placed.0, more, frame_again count placed.0 below, above, lines_say count placed.0 more fit, refl)
+    (placed.0, more, frame_on_day count 0 placed.0 above below, lines_say count placed.0 more fit, refl)
 
 -- lists that are the same begin so
 pub first_same : (a b : ℕ) (xs ys : List ℕ) → a ∷ xs ≡ b ∷ ys → a ≡ b

@@ -19,8 +19,8 @@ line_reads second nothing s text u two_is (inl blanks) tells = blank_reads s tex
 line_reads second nothing s text u two_is (inr comment) tells = comment_reads s text u comment tells
 line_reads second attribute s text u two_is is (none, told) = attribute_reads s text u is none told
 line_reads second (rate count) s text u two_is is (last, none, told) = rate_reads s count text u is last none told
-line_reads second (packet time payload) s text u two_is is (count, frame, counted, framed, after, told) =
-    packet_reads second s time payload text count frame u two_is is counted framed after told
+line_reads second (packet time payload) s text u two_is is (count, frame, counted, framed, told) =
+    packet_reads second s time payload text count frame u two_is is counted framed told
 
 -- its end
 pub ends_lf : (p : Phase) (bytes : List ℕ) (gives : Bool) → ends_in p bytes ≡ Some gives → ends_at_lf p (ends_in p bytes) ≡ Some gives

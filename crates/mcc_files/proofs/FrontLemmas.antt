@@ -1,11 +1,11 @@
 -- A byte more within an open line.
-use Rattle.std.proofs.Common.{◌≡◌, ◌≢◌, ℕ, zero, suc, ◌+◌, ◌≤◌, ◌<◌, ◌⊎◌, inl, inr, ◌==◌, ◌&&◌, ◌||◌, not, nat_le, nat_lt, Bool, true, false, cond, List, [], ◌∷◌, ◌++◌, append_assoc, append-nil, length, length-append, take, drop, get_or, drop-cons, Option, Some, None, is_some, Result, Ok, Err, unwrap_or, refl, ap, sym, ◌∙◌, subst, arith}
+use Rattle.std.proofs.Common.{◌≡◌, ◌≢◌, ℕ, zero, suc, ◌+◌, ◌≤◌, ◌<◌, ◌⊎◌, inl, inr, ◌==◌, ◌&&◌, ◌||◌, not, nat_lt, Bool, true, false, cond, List, [], ◌∷◌, ◌++◌, append_assoc, append-nil, length, length-append, take, drop, get_or, drop-cons, Option, Some, None, is_some, Result, Ok, Err, unwrap_or, refl, ap, sym, ◌∙◌, subst, arith}
 use Rattle.std.specs.Prelude.{slice_index}
 use Rattle.std.specs.List.{concat, list_all}
 use Rattle.std.proofs.lemmas.Bool.{cases_Bool, eqb-true, eqb-false}
 use Rattle.std.proofs.lemmas.Grind.{common_steps}
 use Rattle.std.proofs.lemmas.List.{append_cancel_left, length-take-le, take-append-drop, take_more}
-use Rattle.time_codes.specs.Countings.{counting_text, frame_in}
+use Rattle.time_codes.specs.Countings.{counting_text}
 use Rattle.time_codes.specs.Texts.{IsTimeText, is_digit, time_of_text}
 use Rattle.time_codes.proofs.TextLemmas.{both, read_is_spelled}
 use Rattle.time_codes.specs.declared.counting.Counting.{Counting}
@@ -23,7 +23,7 @@ use Rattle.mcc_files.proofs.SoundLemmas.{packet_so, step_so}
 use Rattle.mcc_files.proofs.StepLemmas.{joined_is}
 use Rattle.mcc_files.specs.Lines.{AreDecimals, AreWithinLine, IsAttribute, IsComment, IsName, IsRate, IsReadPast, is_letter, is_name_byte, rate_name}
 use Rattle.mcc_files.specs.Phases.{matched, rate_bytes, rate_count, rate_moved, whole_moved}
-use Rattle.mcc_files.specs.Reading.{State, begins_time, begun, in_phase, judged_frame, named, not_before, payload_begins, payload_goes, rate_read, taken, timed, within}
+use Rattle.mcc_files.specs.Reading.{State, begins_time, begun, in_phase, judged_frame, named, or_offends, payload_begins, payload_goes, rate_read, taken, timed, within}
 use Rattle.mcc_files.specs.declared.phase.Phase.{Phase}
 use Rattle.mcc_files.specs.declared.phase.Phase.TheVariants as phase
 use Rattle.mcc_files.specs.declared.phase.RateText.{RateText}
@@ -31,6 +31,7 @@ use Rattle.mcc_files.specs.declared.phase.RateText.TheVariants as rate_text
 use Rattle.mcc_files.proofs.Origins.{DigitsFront, DotFront, FieldFront, Front, NameFront, NameMatches, PayloadFront, TimeFront, TimedBy, told_of, version_of}
 use Rattle.mcc_files.proofs.RunLemmas.{ok_same}
 use Rattle.mcc_files.proofs.ToldLemmas.{Told}
+use Rattle.mcc_files.specs.MccFiles.{frame_after}
 
 -- what is taken
 pub taken_so : (s : State) (test : Bool) (next t : State) → taken s test next ≡ Ok t → (test ≡ true) × (next ≡ t)
@@ -361,34 +362,25 @@ rate_next s next t text front byte f None found is =
     same
 
 -- a time code
-pub frame_after_by : (last : Option ℕ) (other frame : ℕ) (test : Bool) → nat_le (unwrap_or last 0) other ≡ test
-    → cond {A = Result ℕ Offence} test (Ok other) (Err (record { back = 10; why = why.Backwards })) ≡ Ok frame → (◌≡◌ {A = Result ℕ Why} (Ok other) (Ok frame)) × (unwrap_or last 0 ≤ frame)
-frame_after_by last other frame false test is = absurd (cc)
-frame_after_by last other frame true test is =
-    let same : other ≡ frame = cc in
-    let low : unwrap_or last 0 ≤ other = grind (arith, common_steps) in
-    (ap (λ x. Ok x) same, subst (λ (x : ℕ). unwrap_or last 0 ≤ x) same low)
-
-pub frame_after : (last : Option ℕ) (found : Result ℕ Why) (frame : ℕ) → not_before last found ≡ Ok frame → (found ≡ Ok frame) × (unwrap_or last 0 ≤ frame)
-frame_after last (Err reason) frame is = absurd (cc)
-frame_after last (Ok other) frame is = frame_after_by last other frame (nat_le (unwrap_or last 0) other) refl is
+pub frame_judged : (found : Result ℕ Why) (frame : ℕ) → or_offends found ≡ Ok frame → found ≡ Ok frame
+frame_judged (Err reason) frame is = absurd (cc)
+frame_judged (Ok other) frame is = let same : other ≡ frame = cc in ap (λ x. Ok x) same
 
 pub less_than_eleven : (n : ℕ) → n ≤ 11 → (n ≡ 11 → ⊥) → n ≤ 10
 less_than_eleven n most other = omega (arith, other)
 
 pub time_of_some : (text : List ℕ) (found : Option TimeCode) → time_of_text text ≡ found → (count : Option Counting) (last : Option ℕ) (frame : ℕ) → judged_frame count last found ≡ Ok frame
-    → (time : TimeCode) × (c : Counting) × IsTimeText time text × (count ≡ Some c) × (frame_in c time ≡ Ok frame) × (unwrap_or last 0 ≤ frame)
+    → (time : TimeCode) × (c : Counting) × IsTimeText time text × (count ≡ Some c) × (frame_after c (unwrap_or last 0) time ≡ Ok frame)
 time_of_some text found is None last frame judged = absurd (cc)
 time_of_some text None is (Some c) last frame judged = absurd (cc)
 time_of_some text (Some time) is (Some c) last frame judged =
-    let f = frame_after last (frame_in c time) frame judged in
-    (time, c, read_is_spelled time text is, refl, f.0, f.1)
+    (time, c, read_is_spelled time text is, refl, frame_judged (frame_after c (unwrap_or last 0) time) frame judged)
 
 pub time_next_by : (s next : State) (t : Told) (text : List ℕ) → told_of s ≡ t → (found : Result ℕ Offence) → judged_frame s.count s.last (time_of_text text) ≡ found
     → timed s text found ≡ Ok next → Next s t text next
 time_next_by s next t text told (Err offence) found is = absurd (cc)
 time_next_by s next t text told (Ok frame) found is =
-    let (time, count, is_text, count_is, framed, after) = time_of_some text (time_of_text text) refl s.count s.last frame found in
+    let (time, count, is_text, count_is, framed) = time_of_some text (time_of_text text) refl s.count s.last frame found in
     let last : s.last ≡ t.last = ap (λ x. x.last) told in
     at_next s t text (record s { phase = phase.Timed; text = text; last = Some frame }) next
     (record {
@@ -398,8 +390,7 @@ time_next_by s next t text told (Ok frame) found is =
         frame = frame;
         is_text = is_text;
         counted = sym (ap (λ x. x.count) told) ∙ count_is;
-        framed = framed;
-        after = subst (λ (o : Option ℕ). unwrap_or o 0 ≤ frame) last after;
+        framed = subst (λ (o : Option ℕ). frame_after count (unwrap_or o 0) time ≡ Ok frame) last framed;
         told = ap (λ (x : Told). record x { last = Some frame }) told;
       };
       version = refl;

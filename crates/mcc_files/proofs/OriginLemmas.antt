@@ -101,7 +101,7 @@ front_line phase.Payload s t front gives f is =
         are_blanks = tt;
         spelled = f.spelled ∙ ap (λ x. f.text ++ (f.past ++ (9 ∷ x))) (sym (append-nil f.payload_text));
       };
-      tells = (f.timed.count, f.timed.frame, f.timed.counted, f.timed.framed, f.timed.after, told_packet s t f.timed.frame w.packet f.timed.told w.bytes);
+      tells = (f.timed.count, f.timed.frame, f.timed.counted, f.timed.framed, told_packet s t f.timed.frame w.packet f.timed.told w.bytes);
     })
 front_line phase.Behind s t front gives f is =
     subst (λ (b : Bool). LineOf s t front b) (some_same true gives is)
@@ -118,7 +118,7 @@ front_line phase.Behind s t front gives f is =
         are_blanks = f.are_blanks;
         spelled = f.spelled;
       };
-      tells = (f.timed.count, f.timed.frame, f.timed.counted, f.timed.framed, f.timed.after, told_packet s t f.timed.frame f.packet f.timed.told f.bytes);
+      tells = (f.timed.count, f.timed.frame, f.timed.counted, f.timed.framed, told_packet s t f.timed.frame f.packet f.timed.told f.bytes);
     })
 front_line (phase.End other) s t front gives f is = absurd (none_is_some gives is)
 

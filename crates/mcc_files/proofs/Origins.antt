@@ -1,6 +1,6 @@
 -- What the bytes are that were read: the first line, or lines that ended and an open one.
 use Rattle.std.proofs.Common.{◌≡◌, ℕ, zero, suc, ◌≤◌, ◌<◌, ◌⊎◌, Bool, true, false, List, [], ◌∷◌, ◌++◌, length, take, Option, Some, None, Ok, unwrap_or}
-use Rattle.time_codes.specs.Countings.{frame_in}
+use Rattle.mcc_files.specs.MccFiles.{frame_after}
 use Rattle.time_codes.specs.Texts.{IsTimeText}
 use Rattle.time_codes.specs.declared.counting.Counting.{Counting}
 use Rattle.time_codes.specs.declared.time_code.TimeCode.{TimeCode}
@@ -68,8 +68,7 @@ pub record TimedBy (now t : Told) (text : List ℕ) : Type 0 where
   pub frame : ℕ
   pub is_text : IsTimeText time text
   pub counted : t.count ≡ Some count
-  pub framed : frame_in count time ≡ Ok frame
-  pub after : unwrap_or t.last 0 ≤ frame
+  pub framed : frame_after count (unwrap_or t.last 0) time ≡ Ok frame
   pub told : now ≡ record t { last = Some frame }
 
 pub record DotFront (second : Bool) (now t : Told) (front : List ℕ) : Type 0 where

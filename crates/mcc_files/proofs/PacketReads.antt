@@ -1,8 +1,7 @@
 -- The lines of packets are read.
-use Rattle.std.proofs.Common.{◌≡◌, ℕ, ◌+◌, ◌≤◌, ◌<◌, ◌⊎◌, inl, inr, ⊎_elim, ◌==◌, ◌&&◌, nat_le, nat_lt, Bool, true, false, List, [], ◌∷◌, ◌++◌, append_assoc, length, Option, Some, Result, Ok, unwrap_or, refl, ap, sym, ◌∙◌, subst, arith}
+use Rattle.std.proofs.Common.{◌≡◌, ℕ, ◌+◌, ◌≤◌, ◌<◌, ◌⊎◌, inl, inr, ⊎_elim, ◌==◌, ◌&&◌, nat_lt, Bool, true, false, List, [], ◌∷◌, ◌++◌, append_assoc, length, Option, Some, Result, Ok, unwrap_or, refl, ap, sym, ◌∙◌, subst, arith}
 use Rattle.std.proofs.lemmas.Bool.{cases_Bool, eqb-true}
 use Rattle.std.proofs.lemmas.Grind.{common_steps}
-use Rattle.time_codes.specs.Countings.{frame_in}
 use Rattle.time_codes.specs.Texts.{HasTwoDigits, IsTimeText, is_digit, mark, ones, tens, text_of, time_of_text}
 use Rattle.time_codes.proofs.TextLemmas.{both, ones_digit, spelled_is_read, tens_digit}
 use Rattle.time_codes.specs.declared.counting.Counting.{Counting}
@@ -17,13 +16,14 @@ use Rattle.mcc_files.proofs.ReadLemmas.{under_leads}
 use Rattle.mcc_files.proofs.SoundLemmas.{as_first, as_letter, as_second, open_so, step_so}
 use Rattle.mcc_files.proofs.StepLemmas.{at_bytes, leads}
 use Rattle.mcc_files.specs.Lines.{AreDecimals, IsFieldPart, IsPacketLine, IsReadPast, is_letter}
-use Rattle.mcc_files.specs.Reading.{State, begins_time, begun, ends, in_phase, judged_frame, not_before, payload_begins, payload_goes, payload_read, run, take_byte, timed, within}
+use Rattle.mcc_files.specs.Reading.{State, begins_time, begun, ends, in_phase, judged_frame, or_offends, payload_begins, payload_goes, payload_read, run, take_byte, timed, within}
 use Rattle.mcc_files.specs.declared.phase.Phase.TheVariants as phase
 use Rattle.mcc_files.proofs.LineReads.{LineReads, blank_is, goes_on, step_run}
 use Rattle.mcc_files.proofs.OriginLemmas.{told_packet}
 use Rattle.mcc_files.proofs.Origins.{told_of, version_of}
 use Rattle.mcc_files.proofs.RunLemmas.{run_both, run_more}
 use Rattle.mcc_files.proofs.ToldLemmas.{Told}
+use Rattle.mcc_files.specs.MccFiles.{frame_after}
 
 -- digits of a time code's text
 pub record IsDigitByte (byte : ℕ) : Type 0 where
@@ -129,24 +129,21 @@ pub last_goes : (s : State) (t : TimeCode) (found : Option TimeCode) → time_of
 last_goes s t found is = ap (λ (o : Option TimeCode). timed (in_time s (ten_of t)) (text_of t) (judged_frame s.count s.last o)) is
 
 pub last_read : (s : State) (count : Counting) (t : TimeCode) → HasTwoDigits t → s.count ≡ Some count
-    → take_byte (in_time s (ten_of t)) (ones t.f) ≡ timed (in_time s (ten_of t)) (text_of t) (not_before s.last (frame_in count t))
+    → take_byte (in_time s (ten_of t)) (ones t.f) ≡ timed (in_time s (ten_of t)) (text_of t) (or_offends (frame_after count (unwrap_or s.last 0) t))
 last_read s count t digits counted =
     let x = digit_byte (ones t.f) (ones_digit t.f) in
     let read = spelled_is_read t (text_of t) (record { digits = digits; spelled = refl }) in
-    goes_on (in_time s (ten_of t)) (ones t.f) (timed (in_time s (ten_of t)) (text_of t) (not_before s.last (frame_in count t))) x.lf x.cr
+    goes_on (in_time s (ten_of t)) (ones t.f) (timed (in_time s (ten_of t)) (text_of t) (or_offends (frame_after count (unwrap_or s.last 0) t))) x.lf x.cr
     (last_goes s t (Some t) read ∙ ap (λ (o : Option Counting). timed (in_time s (ten_of t)) (text_of t) (judged_frame o s.last (Some t))) counted)
 
 -- a time code that is good
 abbrev pub at_time : State → List ℕ → ℕ → State
 at_time s text frame = record s { phase = phase.Timed; text = text; last = Some frame }
 
-pub after_is : (last : Option ℕ) (frame : ℕ) → unwrap_or last 0 ≤ frame → not_before last (Ok frame) ≡ Ok frame
-after_is last frame after = let test : nat_le (unwrap_or last 0) frame ≡ true = grind (arith, common_steps) in rw test refl
-
-pub time_text_read : (s : State) (count : Counting) (frame : ℕ) (t : TimeCode) (text : List ℕ) → IsTimeText t text → s.count ≡ Some count → frame_in count t ≡ Ok frame → unwrap_or s.last 0 ≤ frame
+pub time_text_read : (s : State) (count : Counting) (frame : ℕ) (t : TimeCode) (text : List ℕ) → IsTimeText t text → s.count ≡ Some count → frame_after count (unwrap_or s.last 0) t ≡ Ok frame
     → run (in_phase s phase.Start) text ≡ Ok (at_time s text frame)
-time_text_read s count frame t text is counted framed after =
-    let judged : not_before s.last (frame_in count t) ≡ Ok frame = ap (λ r. not_before s.last r) framed ∙ after_is s.last frame after in
+time_text_read s count frame t text is counted framed =
+    let judged : or_offends (frame_after count (unwrap_or s.last 0) t) ≡ Ok frame = ap or_offends framed in
     let last : take_byte (in_time s (ten_of t)) (ones t.f) ≡ Ok (at_time s (text_of t) frame) =
     last_read s count t is.digits counted ∙ ap (λ r. timed (in_time s (ten_of t)) (text_of t) r) judged in
     subst (λ (x : List ℕ). run (in_phase s phase.Start) x ≡ Ok (at_time s x frame)) (sym is.spelled)
@@ -293,13 +290,13 @@ payload_ends s front (x ∷ xs) whole are = record {
 
 -- a packet's line
 pub packet_reads : (second : Bool) (s : State) (time : TimeCode) (payload : Payload) (text : List ℕ) (count : Counting) (frame : ℕ) (u : Told) → s.two ≡ second
-    → IsPacketLine (version_of second) time payload text → s.count ≡ Some count → frame_in count time ≡ Ok frame → unwrap_or s.last 0 ≤ frame
+    → IsPacketLine (version_of second) time payload text → s.count ≡ Some count → frame_after count (unwrap_or s.last 0) time ≡ Ok frame
     → u ≡ record (told_of s) { last = Some frame; placed = s.placed ++ (frame, payload) ∷ [] } → LineReads (in_phase s phase.Start) text u
-packet_reads second s time payload text count frame u second_is p counted framed after told =
+packet_reads second s time payload text count frame u second_is p counted framed told =
     let start = in_phase s phase.Start in
     let at = at_time s p.text frame in
     let bytes = at_bytes (payload_bytes payload) in
-    let first = time_text_read s count frame time p.text p.is_text counted framed after in
+    let first = time_text_read s count frame time p.text p.is_text counted framed in
     let past = past_read second at p.past second_is p.is_past in
     let body = payload_run p.payload_text at nothing_open bytes
     (under_leads true payload (checksum_byte payload) p.payload_text

@@ -1,5 +1,5 @@
 -- The first offence of bytes is the one with which they are refused.
-use Rattle.std.proofs.Common.{◌≡◌, ℕ, ◌+◌, ◌-◌, ◌*◌, ◌⊎◌, inl, inr, ◌==◌, ◌&&◌, ◌||◌, nat_lt, Bool, true, false, cond, List, [], ◌∷◌, ◌++◌, append_assoc, append-nil, length, length-append, take, drop, Option, Some, None, is_some, Result, Ok, Err, refl, ap, sym, ◌∙◌, subst, arith}
+use Rattle.std.proofs.Common.{◌≡◌, ℕ, ◌+◌, ◌-◌, ◌*◌, ◌⊎◌, inl, inr, ◌==◌, ◌&&◌, ◌||◌, nat_lt, Bool, true, false, cond, List, [], ◌∷◌, ◌++◌, append_assoc, append-nil, length, length-append, take, drop, Option, Some, None, is_some, Result, Ok, Err, refl, ap, sym, ◌∙◌, subst, arith, unwrap_or}
 use Rattle.std.specs.Prelude.{slice_index}
 use Rattle.std.specs.List.{concat}
 use Rattle.std.proofs.lemmas.Bool.{cases_Bool, eqb-true}
@@ -157,7 +157,7 @@ judged_err before s line byte o at f long None counted found time_is is = plain_
 judged_err before s line byte o at f long (Some count) counted None time_is is = plain_in before phase.Time s byte o at time_no_payload (plain_time s o at is)
 judged_err before s line byte o at f long (Some count) counted (Some time) time_is is =
     let start = line.head ++ line.end in
-    let (back, reason) = before_why count time s.last (frame_in count time) o refl is in
+    let (back, reason) = before_why count time (unwrap_or s.last 0) (frame_in count time) o refl is in
     let told : line.told.count ≡ Some count = sym (ap (λ x. x.count) f.told) ∙ counted in
     let spelled : before ≡ start ++ s.text = front_of before s line ∙ ap (λ x. start ++ x) f.spelled in
     let size : length before ≡ length start + length s.text = ap (λ x. length x) spelled ∙ length-append start s.text in

@@ -1,9 +1,8 @@
 -- What lines tell, one after another: the time code rate, the last frame, and the packets.
-use Rattle.std.proofs.Common.{◌≡◌, ℕ, ◌≤◌, List, [], ◌∷◌, ◌++◌, append_assoc, append-nil, Option, Some, None, Ok, refl, ap, sym, ◌∙◌, subst, arith, unwrap_or}
-use Rattle.time_codes.specs.Countings.{frame_in}
+use Rattle.std.proofs.Common.{◌≡◌, ℕ, List, [], ◌∷◌, ◌++◌, append_assoc, append-nil, Option, Some, None, Ok, refl, ap, sym, ◌∙◌, subst, unwrap_or}
 use Rattle.time_codes.specs.declared.counting.Counting.{Counting}
 use Rattle.mcc_files.specs.Lines.{Line, attribute, nothing, packet, rate}
-use Rattle.mcc_files.specs.MccFiles.{Say, SayCounted, SayPackets, TimedPackets}
+use Rattle.mcc_files.specs.MccFiles.{Say, SayCounted, SayPackets, TimedPackets, frame_after}
 
 pub record Told : Type 0 where
   pub count : Option Counting
@@ -19,7 +18,7 @@ Tells t nothing u = u ≡ t
 Tells t attribute u = (t.last ≡ None) × (u ≡ t)
 Tells t (rate count) u = (t.last ≡ None) × (t.count ≡ None) × (u ≡ record t { count = Some count })
 Tells t (packet time payload) u =
-    (count : Counting) × (frame : ℕ) × (t.count ≡ Some count) × (frame_in count time ≡ Ok frame) × (unwrap_or t.last 0 ≤ frame)
+    (count : Counting) × (frame : ℕ) × (t.count ≡ Some count) × (frame_after count (unwrap_or t.last 0) time ≡ Ok frame)
     × (u ≡ record t { last = Some frame; placed = t.placed ++ (frame, payload) ∷ [] })
 
 abbrev pub TellAll : Told → List Line → Told → Type 0
@@ -46,11 +45,11 @@ packets_told (nothing ∷ lines) count last rest before say =
     record { to = t.to; tell = (record { count = Some count; last = Some last; placed = before }, refl, t.tell); all = t.all }
 packets_told (attribute ∷ lines) count last rest before say = absurd say
 packets_told (rate other ∷ lines) count last rest before say = absurd say
-packets_told (packet time payload ∷ lines) count last rest before (frame, rest', framed, after, say, spelled) =
+packets_told (packet time payload ∷ lines) count last rest before (frame, rest', framed, say, spelled) =
     let t = packets_told lines count frame rest' (before ++ (frame, payload) ∷ []) say in
     record {
       to = t.to;
-      tell = (record { count = Some count; last = Some frame; placed = before ++ (frame, payload) ∷ [] }, (count, frame, refl, framed, after, refl), t.tell);
+      tell = (record { count = Some count; last = Some frame; placed = before ++ (frame, payload) ∷ [] }, (count, frame, refl, framed, refl), t.tell);
       all = t.all ∙ (append_assoc before ((frame, payload) ∷ []) rest' ∙ ap (λ r. before ++ r) (sym spelled));
     }
 
@@ -64,11 +63,11 @@ counted_told (attribute ∷ lines) count rest say =
     let t = counted_told lines count rest say in
     record { to = t.to; tell = (record { count = Some count; last = None; placed = [] }, (refl, refl), t.tell); all = t.all }
 counted_told (rate other ∷ lines) count rest say = absurd say
-counted_told (packet time payload ∷ lines) count rest (frame, rest', framed, after, say, spelled) =
+counted_told (packet time payload ∷ lines) count rest (frame, rest', framed, say, spelled) =
     let t = packets_told lines count frame rest' ((frame, payload) ∷ []) say in
     record {
       to = t.to;
-      tell = (record { count = Some count; last = Some frame; placed = (frame, payload) ∷ [] }, (count, frame, refl, framed, after, refl), t.tell);
+      tell = (record { count = Some count; last = Some frame; placed = (frame, payload) ∷ [] }, (count, frame, refl, framed, refl), t.tell);
       all = t.all ∙ sym spelled;
     }
 
@@ -101,12 +100,12 @@ told_packets (nothing ∷ lines) count last before to (next, same, tell) =
     record { rest = s.rest; say = s.say; all = s.all }
 told_packets (attribute ∷ lines) count last before to (next, (some, same), tell) = absurd (none_is_some last (sym some))
 told_packets (rate other ∷ lines) count last before to (next, (some, none, same), tell) = absurd (none_is_some last (sym some))
-told_packets (packet time payload ∷ lines) count last before to (next, (count', frame, count_is, framed, after, same), tell) =
-    let framed' : frame_in count time ≡ Ok frame = subst (λ (c : Counting). frame_in c time ≡ Ok frame) (sym (some_same count count' count_is)) framed in
+told_packets (packet time payload ∷ lines) count last before to (next, (count', frame, count_is, framed, same), tell) =
+    let framed' : frame_after count last time ≡ Ok frame = subst (λ (c : Counting). frame_after c last time ≡ Ok frame) (sym (some_same count count' count_is)) framed in
     let s = told_packets lines count frame (before ++ (frame, payload) ∷ []) to (subst (λ (x : Told). TellAll x lines to) same tell) in
     record {
       rest = (frame, payload) ∷ s.rest;
-      say = (frame, s.rest, framed', after, s.say, refl);
+      say = (frame, s.rest, framed', s.say, refl);
       all = s.all ∙ append_assoc before ((frame, payload) ∷ []) s.rest;
     }
 
@@ -115,14 +114,14 @@ told_counted [] count to tell = ap (λ x. x.placed) (sym tell)
 told_counted (nothing ∷ lines) count to (next, same, tell) = told_counted lines count to (subst (λ (x : Told). TellAll x lines to) same tell)
 told_counted (attribute ∷ lines) count to (next, (none, same), tell) = told_counted lines count to (subst (λ (x : Told). TellAll x lines to) same tell)
 told_counted (rate other ∷ lines) count to (next, (last, some, same), tell) = absurd (none_is_some count (sym some))
-told_counted (packet time payload ∷ lines) count to (next, (count', frame, count_is, framed, after, same), tell) =
-    let framed' : frame_in count time ≡ Ok frame = subst (λ (c : Counting). frame_in c time ≡ Ok frame) (sym (some_same count count' count_is)) framed in
+told_counted (packet time payload ∷ lines) count to (next, (count', frame, count_is, framed, same), tell) =
+    let framed' : frame_after count 0 time ≡ Ok frame = subst (λ (c : Counting). frame_after c 0 time ≡ Ok frame) (sym (some_same count count' count_is)) framed in
     let s = told_packets lines count frame ((frame, payload) ∷ []) to (subst (λ (x : Told). TellAll x lines to) same tell) in
-    (frame, s.rest, framed', omega arith, s.say, s.all)
+    (frame, s.rest, framed', s.say, s.all)
 
 pub told_say : (lines : List Line) (to : Told) → TellAll told_nothing lines to → Say lines to.placed
 told_say [] to tell = ap (λ x. x.placed) (sym tell)
 told_say (nothing ∷ lines) to (next, same, tell) = told_say lines to (subst (λ (x : Told). TellAll x lines to) same tell)
 told_say (attribute ∷ lines) to (next, (none, same), tell) = told_say lines to (subst (λ (x : Told). TellAll x lines to) same tell)
 told_say (rate count ∷ lines) to (next, (last, none, same), tell) = told_counted lines count to (subst (λ (x : Told). TellAll x lines to) same tell)
-told_say (packet time payload ∷ lines) to (next, (count, frame, some, framed, after, same), tell) = absurd (none_is_some count some)
+told_say (packet time payload ∷ lines) to (next, (count, frame, some, framed, same), tell) = absurd (none_is_some count some)

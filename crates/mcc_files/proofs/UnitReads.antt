@@ -1,5 +1,5 @@
 -- What is read of bytes in which nothing offends, and how the units that they end with are refused.
-use Rattle.std.proofs.Common.{◌≡◌, ◌≢◌, ℕ, ◌+◌, ◌-◌, ◌*◌, inl, inr, ◌==◌, Bool, true, false, cond, List, [], ◌∷◌, ◌++◌, append_assoc, length, length-append, Option, Some, None, Result, Ok, Err, refl, ap, sym, ◌∙◌, subst, arith}
+use Rattle.std.proofs.Common.{◌≡◌, ◌≢◌, ℕ, ◌+◌, ◌-◌, ◌*◌, inl, inr, ◌==◌, Bool, true, false, cond, List, [], ◌∷◌, ◌++◌, append_assoc, length, length-append, Option, Some, None, Result, Ok, Err, refl, ap, sym, ◌∙◌, subst, arith, nat_le, unwrap_or}
 use Rattle.std.specs.List.{concat}
 use Rattle.std.proofs.lemmas.Bool.{cases_Bool, eqb-true}
 use Rattle.std.proofs.lemmas.List.{append_cancel_right}
@@ -7,7 +7,7 @@ use Rattle.cc_base.specs.declared.refusal.Refusal.{Refusal}
 use Rattle.cc_base.specs.declared.why.Why.{Why}
 use Rattle.cc_base.specs.declared.why.Why.TheVariants as why
 use Rattle.hex_digits.specs.HexDigits.{hex_value}
-use Rattle.time_codes.specs.Countings.{frame_in, frame_number_in, is_time_code_in}
+use Rattle.time_codes.specs.Countings.{day_frames_in, frame_in, frame_number_in, is_time_code_in}
 use Rattle.time_codes.specs.Texts.{IsTimeText, ones, text_of}
 use Rattle.time_codes.specs.declared.counting.Counting.{Counting}
 use Rattle.time_codes.specs.declared.time_code.TimeCode.{TimeCode}
@@ -25,8 +25,8 @@ use Rattle.mcc_files.proofs.SoundLemmas.{packet_so}
 use Rattle.mcc_files.proofs.StepLemmas.{at_bytes}
 use Rattle.mcc_files.specs.Lines.{IsReadPast, Line, Version, one, rate, rate_name, two}
 use Rattle.mcc_files.specs.Offences.{AwaitsItem, AwaitsTime, BeginsMccFile, EndsInItem, EndsInTime, EndsItem, EndsRate, EndsTime, HasMccRate, IsUnoffendingMcc}
-use Rattle.mcc_files.specs.MccFiles.{IsMccFile}
-use Rattle.mcc_files.specs.Reading.{State, at_first, ends, ends_at_lf, ends_in, in_phase, not_before, payload_begins, payload_goes, placed_with, run, take_byte, timed}
+use Rattle.mcc_files.specs.MccFiles.{IsMccFile, day_begins, frame_after, goes_over_midnight, stands_after}
+use Rattle.mcc_files.specs.Reading.{State, at_first, ends, ends_at_lf, ends_in, in_phase, or_offends, payload_begins, payload_goes, placed_with, run, take_byte, timed}
 use Rattle.mcc_files.specs.declared.phase.Phase.{Phase}
 use Rattle.mcc_files.specs.declared.phase.Phase.TheVariants as phase
 use Rattle.mcc_files.proofs.FileReads.{file_run, form_read}
@@ -185,7 +185,7 @@ awaiting_item items bytes a =
     let rest : run (in_time s ten) (last ∷ tail) ≡ Ok r.to = sym (run_on at_first (a.start ++ ten) (last ∷ tail) (in_time s ten) ten_is) ∙ all in
     let one_on = went (take_byte (in_time s ten) last) (λ n. run n tail) r.to rest in
     let judged = last_read s a.count a.time a.is_text.digits w.at.counted in
-    let (frame, found) = judged_ok (in_time s ten) (text_of a.time) (not_before s.last (frame_in a.count a.time)) one_on.next (sym judged ∙ one_on.stepped) in
+    let (frame, found) = judged_ok (in_time s ten) (text_of a.time) (or_offends (frame_after a.count (unwrap_or s.last 0) a.time)) one_on.next (sym judged ∙ one_on.stepped) in
     let at = at_time s (text_of a.time) frame in
     let step_at : take_byte (in_time s ten) last ≡ Ok at = judged ∙ ap (λ x. timed (in_time s ten) (text_of a.time) x) found in
     let text_run = run_more at_first (a.start ++ ten) (in_time s ten) last at ten_is step_at in
@@ -251,14 +251,15 @@ pub frame_why : (count : Counting) (t : TimeCode) (test : Bool) (reason : Why) �
 frame_why count t true reason is = absurd (cc)
 frame_why count t false reason is = cc
 
-pub before_why_by : (test : Bool) (frame : ℕ) (o : Offence) → cond {A = Result ℕ Offence} test (Ok frame) (Err (record { back = 10; why = why.Backwards })) ≡ Err o
-    → (o.back ≡ 10) × (o.why ≡ why.Backwards)
-before_why_by true frame o is = absurd (cc)
-before_why_by false frame o is = let same : record { back = 10; why = why.Backwards } ≡ o = cc in (ap (λ (x : Offence). x.back) (sym same), ap (λ (x : Offence). x.why) (sym same))
+pub before_why_by : (late midnight : Bool) (at over : ℕ) (o : Offence)
+    → or_offends (cond {A = Result ℕ Why} late (Ok at) (cond {A = Result ℕ Why} midnight (Ok over) (Err why.Backwards))) ≡ Err o → (o.back ≡ 10) × (o.why ≡ why.Backwards)
+before_why_by true midnight at over o is = absurd (cc)
+before_why_by false true at over o is = absurd (cc)
+before_why_by false false at over o is = let same : record { back = 10; why = why.Backwards } ≡ o = cc in (ap (λ (x : Offence). x.back) (sym same), ap (λ (x : Offence). x.why) (sym same))
 
-pub before_why : (count : Counting) (t : TimeCode) (last : Option ℕ) (found : Result ℕ Why) (o : Offence) → frame_in count t ≡ found → not_before last found ≡ Err o
+pub before_why : (count : Counting) (t : TimeCode) (last : ℕ) (found : Result ℕ Why) (o : Offence) → frame_in count t ≡ found → or_offends (stands_after count last t found) ≡ Err o
     → (o.back ≡ 10) × (o.why ≡ time_why_by found)
-before_why count t last (Ok frame) o found is = before_why_by _ frame o is
+before_why count t last (Ok frame) o found is = before_why_by (nat_le last (day_begins count last + frame)) (goes_over_midnight count last t) (day_begins count last + frame) (day_frames_in count + frame) o is
 before_why count t last (Err reason) o found is =
     let same : record { back = 10; why = reason } ≡ o = cc in
     (ap (λ (x : Offence). x.back) (sym same), ap (λ (x : Offence). x.why) (sym same) ∙ frame_why count t (is_time_code_in count t) reason found)
@@ -285,8 +286,8 @@ time_refused before s byte o refusal reaches refused e =
     ok_one (run at_first before) s (in_time a.at.to ten) reaches (subst (λ (x : List ℕ). run at_first x ≡ Ok (in_time a.at.to ten)) (sym fronts) ten_is) in
     let judged = last_read a.at.to e.count e.time e.is_text.digits a.at.counted in
     let refused' : take_byte (in_time a.at.to ten) last ≡ Err o = subst (λ (x : State). take_byte x last ≡ Err o) same (subst (λ (b : ℕ). take_byte s b ≡ Err o) bytes refused) in
-    let found = timed_err (in_time a.at.to ten) (text_of e.time) (not_before a.at.to.last (frame_in e.count e.time)) o (sym judged ∙ refused') in
-    let (back, reason) = before_why e.count e.time a.at.to.last (frame_in e.count e.time) o refl found in
+    let found = timed_err (in_time a.at.to ten) (text_of e.time) (or_offends (frame_after e.count (unwrap_or a.at.to.last 0) e.time)) o (sym judged ∙ refused') in
+    let (back, reason) = before_why e.count e.time (unwrap_or a.at.to.last 0) (frame_in e.count e.time) o refl found in
     let long : length before ≡ length e.start + 10 = ap (λ x. length x) fronts ∙ length-append e.start ten in
     let place = e.place_is in
     record { back = back; so = record { place = omega (arith, long, back, place); reason = e.why_is ∙ sym reason } }

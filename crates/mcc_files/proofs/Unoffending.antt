@@ -110,7 +110,7 @@ count_stays [] t u count same is = ap (λ x. x.count) (sym same) ∙ is
 count_stays (nothing ∷ lines) t u count (next, same, more) is = count_stays lines next u count more (ap (λ x. x.count) same ∙ is)
 count_stays (attribute ∷ lines) t u count (next, (none, same), more) is = count_stays lines next u count more (ap (λ x. x.count) same ∙ is)
 count_stays (rate other ∷ lines) t u count (next, (none, no_rate, same), more) is = absurd (none_is_some count (sym no_rate ∙ is))
-count_stays (packet time payload ∷ lines) t u count (next, (other, frame, counted, framed, after, same), more) is = count_stays lines next u count more (ap (λ x. x.count) same ∙ is)
+count_stays (packet time payload ∷ lines) t u count (next, (other, frame, counted, framed, same), more) is = count_stays lines next u count more (ap (λ x. x.count) same ∙ is)
 
 pub rate_told : (lines : List Line) (t u : Told) (count : Counting) → TellAll t lines u → t.count ≡ None → u.count ≡ Some count → HasMccRate count lines
 rate_told [] t u count same none is = absurd (none_is_some count (sym none ∙ (ap (λ x. x.count) same ∙ is)))
@@ -124,7 +124,7 @@ rate_told (rate other ∷ lines) t u count (next, (no_packet, no_rate, same), mo
     let stays = count_stays lines next u other more (ap (λ x. x.count) same) in
     let one_rate : other ≡ count = some_same other count (sym stays ∙ is) in
     ([], lines, ap (λ c. rate c ∷ lines) one_rate)
-rate_told (packet time payload ∷ lines) t u count (next, (other, frame, counted, framed, after, same), more) none is = absurd (none_is_some other (sym none ∙ counted))
+rate_told (packet time payload ∷ lines) t u count (next, (other, frame, counted, framed, same), more) none is = absurd (none_is_some other (sym none ∙ counted))
 
 -- the lines before the open one await a time code
 pub ends_line : (head end : List ℕ) → IsLineEnd end → EndsLine (head ++ end)
@@ -201,7 +201,7 @@ packet_begins before s o text past payload_text rest payload timed is_past is sp
       are_blanks = tt;
       spelled = spelled ∙ ap (λ x. text ++ (past ++ (9 ∷ x))) (sym (append-nil payload_text));
     })
-    (timed.count, timed.frame, timed.counted, timed.framed, timed.after, refl)
+    (timed.count, timed.frame, timed.counted, timed.framed, refl)
 
 -- items that are no payload yet
 pub not_whole_yet : (items : List (List ℕ)) (text bytes : List ℕ) → AreItems items text → joined true [] (concat items) ≡ Ok bytes → is_whole bytes ≡ false
@@ -262,7 +262,7 @@ front_begins before s o text past start items bytes timed is_past are is =
         lines = o.lines ++ packet timed.time b.payload ∷ [];
         form = subst (λ (x : List ℕ). IsMccForm (version_of s.two) (o.lines ++ packet timed.time b.payload ∷ []) x) texts form;
         say = told_say (o.lines ++ packet timed.time b.payload ∷ []) u
-            (tell_more o.lines told_nothing o.told (packet timed.time b.payload) u o.tell (timed.count, timed.frame, timed.counted, timed.framed, timed.after, refl));
+            (tell_more o.lines told_nothing o.told (packet timed.time b.payload) u o.tell (timed.count, timed.frame, timed.counted, timed.framed, refl));
       };
     }
 

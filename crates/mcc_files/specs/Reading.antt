@@ -1,16 +1,15 @@
 -- Between crates: the program's answer stands on none of these definitions.
 -- MCC files read byte by byte: the packets at their frames, or the first offence.
-use Rattle.std.specs.Prelude.{ℕ, ◌+◌, ◌-◌, ◌==◌, ◌&&◌, ◌||◌, not, Bool, true, false, if◌then◌else◌, nat_le, nat_lt, List, [], ◌∷◌, ◌++◌, codes, drop, length, slice_index, take, Option, Some, None, Result, Ok, Err, is_some, unwrap_or}
+use Rattle.std.specs.Prelude.{ℕ, ◌+◌, ◌-◌, ◌==◌, ◌&&◌, ◌||◌, not, Bool, true, false, if◌then◌else◌, nat_lt, List, [], ◌∷◌, ◌++◌, codes, drop, length, slice_index, take, Option, Some, None, Result, Ok, Err, is_some, unwrap_or}
 use Rattle.cc_base.specs.declared.refusal.Refusal.{Refusal}
 use Rattle.cc_base.specs.declared.why.Why.{Why}
 use Rattle.cc_base.specs.declared.why.Why.TheVariants as why
 use Rattle.scc_files.specs.Phases.{is_blank}
-use Rattle.time_codes.specs.Countings.{frame_in}
 use Rattle.time_codes.specs.Texts.{is_digit, time_of_text}
 use Rattle.time_codes.specs.declared.counting.Counting.{Counting}
 use Rattle.time_codes.specs.declared.time_code.TimeCode.{TimeCode}
 use Rattle.mcc_files.specs.Lines.{format_text, is_letter, is_name_byte, one}
-use Rattle.mcc_files.specs.MccFiles.{TimedPackets}
+use Rattle.mcc_files.specs.MccFiles.{TimedPackets, frame_after}
 use Rattle.mcc_files.specs.Phases.{matched, rate_count, rate_moved, why_in}
 use Rattle.mcc_files.specs.declared.phase.Phase.{Phase}
 use Rattle.mcc_files.specs.declared.phase.Phase.TheVariants as phase
@@ -144,10 +143,10 @@ rate_read s text None byte = taken s (is_some (rate_count text) && (byte == 32))
 abbrev pub begins_time : List ℕ → Bool
 begins_time text = is_some (time_of_text (text ++ drop (length text) (codes "00:00:00:00")))
 
--- the frame of a time code that is not before the last one; else its text offends, from its first byte on
-abbrev pub not_before : Option ℕ → Result ℕ Why → Result ℕ Offence
-not_before last (Ok frame) = if nat_le (unwrap_or last 0) frame then Ok frame else Err (record { back = 10; why = why.Backwards })
-not_before last (Err reason) = Err (record { back = 10; why = reason })
+-- the frame of a time code; else its text offends, from its first byte on
+abbrev pub or_offends : Result ℕ Why → Result ℕ Offence
+or_offends (Ok frame) = Ok frame
+or_offends (Err reason) = Err (record { back = 10; why = reason })
 
 abbrev pub no_time : Result ℕ Offence
 no_time = Err (record { back = 0; why = why.MccSyntax })
@@ -155,7 +154,7 @@ no_time = Err (record { back = 0; why = why.MccSyntax })
 abbrev pub judged_frame : Option Counting → Option ℕ → Option TimeCode → Result ℕ Offence
 judged_frame None last time = no_time
 judged_frame (Some count) last None = no_time
-judged_frame (Some count) last (Some time) = not_before last (frame_in count time)
+judged_frame (Some count) last (Some time) = or_offends (frame_after count (unwrap_or last 0) time)
 
 abbrev pub timed : State → List ℕ → Result ℕ Offence → Result State Offence
 timed s text (Ok frame) = Ok (record s { phase = phase.Timed; text = text; last = Some frame })

@@ -1,6 +1,7 @@
 ghost use Rattle.std.specs.Prelude.{◌≡◌, ◌≤◌, ◌<◌, ◌++◌, ◌∷◌, ◌&&◌, [], length, List, ℕ, Ok, Err, IfSome, MatchOption, MatchResult, is_some, nat_lt, ◌+◌};
 ghost use Rattle.scc_files.specs.Lines.{IsLineEnd};
 ghost use Rattle.mcc_files.specs.Phases.{HasNumbersInRange, most_text};
+ghost use Rattle.mcc_files.specs.MccFiles.{frame_after};
 ghost use Rattle.mcc_files.specs.Reading.{begins_time, judged_frame};
 ghost use Rattle.time_codes.specs.Texts.{time_of_text};
 
@@ -8,7 +9,7 @@ use crate::phase::{Phase, RateText, is_blank, is_letter, is_name_byte, matched};
 use crate::{Item, Offence, PayloadReader};
 use arrayvec::ArrayVec;
 use cc_base::Why;
-use time_codes::{Counting, frame_in, read_time_bytes};
+use time_codes::{Counting, TimeCode, frame_in, read_time_bytes, time_in};
 
 /// The text of the first line of version 1.
 const FIRST_TEXT: [u8; 31] = *b"File Format=MacCaption_MCC V1.0";
@@ -29,7 +30,25 @@ const NO_TIME: Offence = Offence {
     why: Why::MccSyntax,
 };
 
-/// The frame of the day of a whole text of a time code, which is not before the last one, or the offence from its first byte on.
+/// The frame of a time code after another frame: its frame of the day, or after midnight that frame counted on from the day's number
+/// of frames. NoSuchTime comes where no frame has the time code, and Backwards where it stands before the other frame and midnight isn't
+/// passed, or not for the first time.
+fn frame_after(count: Counting, last: u32, time: TimeCode) -> Result<u32, Why>
+    ensures { result ≡ frame_after count last time }
+{
+    let frame = frame_in(count, time)?;
+    let day = count.day_frames();
+    let at = if last < day { frame } else { day + frame };
+    if last <= at {
+        return Ok(at);
+    }
+    if last < day && time_in(count, last).h == 23 && time.h == 0 {
+        return Ok(day + frame);
+    }
+    Err(Why::Backwards)
+}
+
+/// The frame of a whole text of a time code after the last one, or the offence from its first byte on.
 fn judged_frame(count: Option<Counting>, last: Option<u32>, text: &[u8]) -> Result<u32, Offence>
     ensures { MatchResult result
         (λ frame. judged_frame count last (time_of_text text.now) ≡ Ok frame)
@@ -38,15 +57,10 @@ fn judged_frame(count: Option<Counting>, last: Option<u32>, text: &[u8]) -> Resu
     let (Some(count), Some(time)) = (count, read_time_bytes(text)) else {
         return Err(NO_TIME);
     };
-    let frame = match frame_in(count, time) {
-        Ok(frame) => frame,
-        Err(why) => return Err(Offence { back: 10, why }),
-    };
-    if frame < last.unwrap_or(0) {
-        let why = Why::Backwards;
-        return Err(Offence { back: 10, why });
+    match frame_after(count, last.unwrap_or(0), time) {
+        Ok(frame) => Ok(frame),
+        Err(why) => Err(Offence { back: 10, why }),
     }
-    Ok(frame)
 }
 
 /// What follows the line end, LF or CR LF, with which bytes begin; None exactly where they begin with none.
@@ -73,7 +87,7 @@ pub struct MccReader {
     two: bool,
     // the time code rate, once it has come
     count: Option<Counting>,
-    // the frame of the day of the last time code
+    // the frame of the last time code, counted on over midnight
     last: Option<u32>,
     // the bytes of an open time code's text
     text: ArrayVec<u8, 11>,
@@ -471,7 +485,8 @@ impl MccReader {
         }
     }
 
-    /// The frame of the day of the packet whose line is open, or ended last: of its time code, counted by the time code rate.
+    /// The frame of the packet whose line is open, or ended last: its time code's frame of the day, counted by the time code rate, and
+    /// after midnight counted on from the day's number of frames.
     pub fn frame(&self) -> u32
         ensures { result ≡ (packet_in self.now).0 }
     {

@@ -13,6 +13,7 @@ use Rattle.mcc_files.specs.Payloads.{IsPayload, Payload, payload_bytes}
 use Rattle.mcc_files.proofs.LetterLemmas.{IsKnown, blank, captions, fills, first, identifier, known, long, second, zeros}
 use Rattle.mcc_files.proofs.WrittenLemmas.{AreBytes}
 use Rattle.time_codes.specs.declared.counting.Counting.{Counting}
+use Rattle.mcc_files.proofs.TimeLemmas.{frame_low}
 
 -- the bytes of items
 pub one_more : (byte : ℕ) (bytes : List ℕ) → byte < 256 → AreBytes bytes → AreBytes (byte ∷ bytes)
@@ -82,8 +83,8 @@ packets_forward count last [] placed have say = subst (GoForward last) (sym say)
 packets_forward count last (nothing ∷ lines) placed have say = packets_forward count last lines placed have say
 packets_forward count last (attribute ∷ lines) placed have say = absurd say
 packets_forward count last (rate other ∷ lines) placed have say = absurd say
-packets_forward count last (packet time payload ∷ lines) placed have (frame, rest, at, behind, more, split) =
-    subst (GoForward last) (sym split) (behind, have.0, packets_forward count frame lines rest have.1 more)
+packets_forward count last (packet time payload ∷ lines) placed have (frame, rest, at, more, split) =
+    subst (GoForward last) (sym split) (frame_low count last time frame at, have.0, packets_forward count frame lines rest have.1 more)
 
 counted_forward : (count : Counting) (lines : List Line) (placed : TimedPackets) → LinesHaveBytes lines → SayCounted count lines placed → GoForward 0 placed
 counted_forward count [] placed have say = subst (GoForward 0) (sym say) tt
