@@ -23,4 +23,5 @@ complete -c ccsuite -n __fish_use_subcommand -a help -d 'A page on all commands,
 complete -c ccsuite -n __fish_use_subcommand -a version -d 'The version'
 complete -c ccsuite -n '__fish_seen_subcommand_from export-mcc; and test (count (commandline -opc)) -eq 2' -a '24 25 30 30DF 50 60 60DF'
 complete -c ccsuite -n '__fish_seen_subcommand_from verify insert dual xds; and test (count (commandline -opc)) -eq 2' -F
+complete -c ccsuite -n '__fish_seen_subcommand_from fit; and test (count (commandline -opc)) -eq 3' -F
 complete -c ccsuite -n '__fish_seen_subcommand_from help; and test (count (commandline -opc)) -eq 2' -a 'build pairs cues fit dual xds decode show conceal xds-show verify insert import export import-mcc export-mcc convert load help version'

@@ -91,6 +91,7 @@ for shell in bash zsh fish; do
     offers "$shell" 'ccsuite insert list.csv ' ''
     offers "$shell" 'ccsuite load ' ''
     offers "$shell" 'ccsuite dual l' 'list.csv'
+    offers "$shell" 'ccsuite fit 45 l' 'list.csv'
     offers "$shell" 'ccsuite i' 'insert import import-mcc'
     offers "$shell" 'ccsuite import-mcc ' ''
     offers "$shell" 'ccsuite export-mcc 6' '60 60DF'

@@ -59,7 +59,7 @@ class Case:
 
     @property
     def reads_nothing(self):
-        return self.words[:1] in (["load"], ["help"], ["version"]) or self.status == 1 or self.listed is not None and self.status in (7, 8) and self.words[0] not in ("dual", "xds")
+        return self.words[:1] in (["load"], ["help"], ["version"]) or self.status == 1 or self.listed is not None and self.status in (7, 8) and self.words[0] not in ("dual", "xds", "fit")
 
     @property
     def streams(self):
@@ -380,7 +380,7 @@ def with_field_two(words, pairs):
 
 def commands():
     """Each command with its cases, and the sizes of the pieces in which they are read."""
-    usage = b"usage: ccsuite pairs|build|decode|show FRAME|verify CUES|insert CUES|import [TIME]|export TIME|cues|load N|dual CUES|xds PACKETS|xds-show|conceal|convert|import-mcc|export-mcc RATE TIME|fit N|help|version\n"
+    usage = b"usage: ccsuite pairs|build|decode|show FRAME|verify CUES|insert CUES|import [TIME]|export TIME|cues|load N|dual CUES|xds PACKETS|xds-show|conceal|convert|import-mcc|export-mcc RATE TIME|fit N [CUES]|help|version\n"
     yield "usage", [Case(it, b"x", 1, usage) for it in ([], ["load", "0"], ["load", "03"], ["show"], ["show", "01"], ["pairs", "x"], ["xds-show", "x"], ["conceal", "x"], ["convert", "x"], ["import-mcc", "x"], ["export-mcc", "30", "00:00:00;00"], ["fit"], ["fit", "1001"], ["help", "x"], ["version", "1"], ["pairs", "\udcff"])], []
     hello = example("hello.csv")
     dense = hello.replace(b",0,7,20", b",0,6,20")
@@ -449,6 +449,12 @@ def commands():
         Case(["dual"], hello, listed=beside), Case(["dual"], hello, 7, meets, hello), Case(["dual"], dense, 8, b"no room: cue 1\n", beside),
         Case(["dual"], hello, 11, b"no room in CUES: cue 1\n", beside.replace(b",0,18,", b",13,17,")),
         Case(["dual"], hello, 6, b"malformed at record 1 field 4: OtherList\n", b"ccsuite,1,29.97,31\n"), Case(["dual"], *lists[2], beside),
+    ], [1, 7, 4096]
+    fit = ["fit", "45"]
+    yield "fit beside a list", [
+        Case(fit, beside, listed=hello), Case(["fit", "11"], hello, listed=hello), Case(["fit", "8"], hello, 8, b"no room: cue 1\n", hello),
+        Case(fit, beside, 11, b"no room in CUES: cue 1\n", dense), Case(fit, b"ccsuite,1,29.97,31\n", 6, b"malformed at record 1 field 4: OtherList\n", hello),
+        Case(fit, *lists[2], hello),
     ], [1, 7, 4096]
     news = b"xds,2,1,3,NEWS\n"
     yield "xds", [

@@ -10,6 +10,7 @@ use Rattle.fit_commands.proofs.ListVerdictLemmas.{build_one, cues_one, pairs_one
 use Rattle.fit_commands.proofs.EveryLemmas.{every_build, every_cues, every_pairs}
 use Rattle.dual_commands.proofs.VerdictLemmas.{dual_one}
 use Rattle.dual_commands.proofs.EveryLemmas.{every_dual}
+use Rattle.fit_commands.proofs.BesideVerdictLemmas.{every_fit_beside, fit_beside_one}
 use Rattle.fit_commands.proofs.VerdictLemmas.{every_fit, fit_one}
 use Rattle.help_commands.proofs.VerdictLemmas.{every_text, text_one}
 use Rattle.help_commands.specs.Pages.{page_text}
@@ -35,7 +36,7 @@ use Rattle.xds_commands.proofs.VerdictLemmas.{xds_one}
 use Rattle.xds_commands.proofs.EveryLemmas.{every_xds}
 use Rattle.ccsuite_cli.specs.Answer.{input_for, side_for, verdict_of}
 use Rattle.ccsuite_cli.specs.Verdict.{EveryInputHasVerdict, FaultsAreTold, VerdictIsAnswered, VerdictIsOne}
-use Rattle.ccsuite_cli.specs.declared.command.Command.TheVariants.{Build, Conceal, Convert, Cues, Decode, Dual, Export, ExportMcc, Fit, Help, Import, ImportMcc, Insert, Load, Pairs, Show, Verify, Version, Xds, XdsShow}
+use Rattle.ccsuite_cli.specs.declared.command.Command.TheVariants.{Build, Conceal, Convert, Cues, Decode, Dual, Export, ExportMcc, Fit, FitBeside, Help, Import, ImportMcc, Insert, Load, Pairs, Show, Verify, Version, Xds, XdsShow}
 
 pub verdict_one : VerdictIsOne
 verdict_one Pairs = pairs_one
@@ -56,6 +57,7 @@ verdict_one ImportMcc = import_mcc_one
 verdict_one (ExportMcc count time) = export_mcc_one (start_at count time)
 verdict_one (Load count) = load_one count
 verdict_one (Fit late) = fit_one late
+verdict_one (FitBeside late) = fit_beside_one late
 verdict_one (Help page) = text_one (page_text page)
 verdict_one Version = text_one VERSION_LINE.now
 
@@ -78,6 +80,7 @@ every_input ImportMcc runs = every_import_mcc
 every_input (ExportMcc count time) runs = every_export_mcc (start_at count time) (starts_in_day count time runs)
 every_input (Load count) runs = every_load count runs.0 runs.1
 every_input (Fit late) runs = every_fit late runs
+every_input (FitBeside late) runs = every_fit_beside late runs
 every_input (Help page) runs = every_text (page_text page)
 every_input Version runs = every_text VERSION_LINE.now
 

@@ -11,6 +11,7 @@ use Rattle.fit_commands.specs.Accepted.{IsGoodList}
 use Rattle.fit_commands.specs.ListVerdict.{BuildVerdict, CuesVerdict, PairsVerdict}
 use Rattle.fit_commands.specs.Output.{IsPlacedAs}
 use Rattle.dual_commands.specs.DualVerdict.{DualVerdict}
+use Rattle.fit_commands.specs.FitBesideVerdict.{FitBesideVerdict}
 use Rattle.fit_commands.specs.FitVerdict.{FitVerdict}
 use Rattle.help_commands.specs.Pages.{page_text}
 use Rattle.help_commands.specs.TextVerdict.{TextVerdict}
@@ -30,7 +31,7 @@ use Rattle.xds_commands.specs.PacketLists.{IsGoodPackets}
 use Rattle.xds_commands.specs.XdsVerdict.{XdsVerdict}
 use Rattle.ccsuite_cli.specs.Command.{has_side_file}
 use Rattle.ccsuite_cli.specs.declared.command.Command.{Command}
-use Rattle.ccsuite_cli.specs.declared.command.Command.TheVariants.{Build, Conceal, Convert, Cues, Decode, Dual, Export, ExportMcc, Fit, Help, Import, ImportMcc, Insert, Load, Pairs, Show, Verify, Version, Xds, XdsShow}
+use Rattle.ccsuite_cli.specs.declared.command.Command.TheVariants.{Build, Conceal, Convert, Cues, Decode, Dual, Export, ExportMcc, Fit, FitBeside, Help, Import, ImportMcc, Insert, Load, Pairs, Show, Verify, Version, Xds, XdsShow}
 
 -- what a command makes of its side file and its input
 abbrev pub verdict_of : Command → Verdict
@@ -52,6 +53,7 @@ verdict_of ImportMcc aside = ImportMccVerdict
 verdict_of (ExportMcc count time) aside = ExportMccVerdict (start_at count time)
 verdict_of (Load count) aside = LoadVerdict count
 verdict_of (Fit late) aside = FitVerdict late
+verdict_of (FitBeside late) aside = FitBesideVerdict late aside
 verdict_of (Help page) aside = TextVerdict (page_text page)
 verdict_of Version aside = TextVerdict VERSION_LINE.now
 
@@ -82,6 +84,7 @@ IsUntouched (Some Cues) side old new answer = ⊤
 IsUntouched (Some (Import time)) side old new answer = ⊤
 IsUntouched (Some (Fit late)) side old new answer = ⊤
 IsUntouched (Some Dual) side old new answer = AwaitsSide IsGoodList side old new
+IsUntouched (Some (FitBeside late)) side old new answer = AwaitsSide IsGoodList side old new
 IsUntouched (Some Xds) side old new answer = AwaitsSide IsGoodPackets side old new
 IsUntouched (Some Verify) side old new answer = LeavesAll old new answer × AwaitsSide IsGoodList side old new
 IsUntouched (Some Insert) side old new answer = LeavesAll old new answer × AwaitsSide IsPlacedAs side old new

@@ -15,7 +15,7 @@ use Rattle.time_codes.specs.declared.counting.Counting.{Counting}
 use Rattle.time_codes.specs.declared.counting.Counting.TheVariants as counting
 use Rattle.time_codes.specs.declared.time_code.TimeCode.{TimeCode}
 use Rattle.ccsuite_cli.specs.declared.command.Command.{Command}
-use Rattle.ccsuite_cli.specs.declared.command.Command.TheVariants.{Build, Conceal, Convert, Cues, Decode, Dual, Export, ExportMcc, Fit, Help, Import, ImportMcc, Insert, Load, Pairs, Show, Verify, Version, Xds, XdsShow}
+use Rattle.ccsuite_cli.specs.declared.command.Command.TheVariants.{Build, Conceal, Convert, Cues, Decode, Dual, Export, ExportMcc, Fit, FitBeside, Help, Import, ImportMcc, Insert, Load, Pairs, Show, Verify, Version, Xds, XdsShow}
 
 -- the time code of a text, if it spells one and a frame of the day has it
 abbrev pub start_of : List ℕ → Option TimeCode
@@ -46,15 +46,21 @@ IsRunnable (Some (Export time)) = is_time_code time ≡ true
 IsRunnable (Some (ExportMcc count time)) = is_time_code_in count time ≡ true
 IsRunnable (Some (Load count)) = (1 ≤ count) × (count ≤ most_load)
 IsRunnable (Some (Fit late)) = late ≤ most_late
+IsRunnable (Some (FitBeside late)) = late ≤ most_late
 IsRunnable _ = ⊤
 
--- what follows the word of a command: nothing, or nothing or one argument, by what the line of usage has of it, or one or two arguments,
--- by their names there, which make it a command, if they make it one
+-- what follows the word of a command: nothing, or nothing or one argument, by what the line of usage has of it, or one argument, or two,
+-- or one or two, by their names there, which make it a command, if they make it one
 pub data Behind : Type 0 where
   Nothing : Command → Behind
   Optional : List ℕ → Command → (List ℕ → Option Command) → Behind
   Argument : List ℕ → (List ℕ → Option Command) → Behind
   Arguments : List ℕ → List ℕ → (List ℕ → List ℕ → Option Command) → Behind
+  OneOrTwo : List ℕ → List ℕ → (List ℕ → Option Command) → (List ℕ → List ℕ → Option Command) → Behind
+
+-- the most frames that a cue may be shown late, by their text
+abbrev pub late_of : List ℕ → Option ℕ
+late_of = number_within 0 most_late
 
 -- the commands, each by its word and what follows it, as the line of usage has them
 abbrev pub commands : List (List ℕ × Behind)
@@ -75,9 +81,12 @@ commands =
     ∷ (codes "conceal", Nothing Conceal)
     ∷ (codes "convert", Nothing Convert)
     ∷ (codes "import-mcc", Nothing ImportMcc)
-    ∷ (codes "export-mcc", Arguments (codes "RATE") (codes "TIME")
-        (λ rate time. option_and_then (λ count. option_map (ExportMcc count) (start_in count time)) (named countings rate)))
-    ∷ (codes "fit", Argument (codes "N") (λ late. option_map Fit (number_within 0 most_late late)))
+    ∷ (
+      codes "export-mcc",
+      Arguments (codes "RATE") (codes "TIME")
+          (λ rate time. option_and_then (λ count. option_map (ExportMcc count) (start_in count time)) (named countings rate)),
+    )
+    ∷ (codes "fit", OneOrTwo (codes "N") (codes "CUES") (λ late. option_map Fit (late_of late)) (λ late path. option_map FitBeside (late_of late)))
     ∷ (codes "help", Optional [] (Help Commands) (λ word. option_map Help (named pages word)))
     ∷ (codes "version", Nothing Version)
     ∷ []
@@ -97,6 +106,8 @@ with_arguments [] (Optional shown command more) = Some command
 with_arguments (argument ∷ []) (Optional shown command more) = more argument
 with_arguments (argument ∷ []) (Argument name command) = command argument
 with_arguments (one ∷ other ∷ []) (Arguments name another command) = command one other
+with_arguments (one ∷ []) (OneOrTwo name another command more) = command one
+with_arguments (one ∷ other ∷ []) (OneOrTwo name another command more) = more one other
 with_arguments _ _ = None
 
 -- the command that these words are, if they are one
@@ -111,11 +122,13 @@ has_side_file (Some Verify) = true
 has_side_file (Some Insert) = true
 has_side_file (Some Dual) = true
 has_side_file (Some Xds) = true
+has_side_file (Some (FitBeside late)) = true
 has_side_file _ = false
 
--- the path of the side file of these words: the argument of a command that reads one
+-- the path of the side file of these words: the last argument of a command that reads one
 abbrev pub side_path : List (List ℕ) → Option (List ℕ)
 side_path (word ∷ path ∷ []) = if has_side_file (command_of (word ∷ path ∷ [])) then Some path else None
+side_path (word ∷ one ∷ path ∷ []) = if has_side_file (command_of (word ∷ one ∷ path ∷ [])) then Some path else None
 side_path _ = None
 
 -- how the line of usage has a command
@@ -124,6 +137,7 @@ usage_of (word, Nothing command) = word
 usage_of (word, Optional shown command more) = word ++ shown
 usage_of (word, Argument name command) = word ++ codes " " ++ name
 usage_of (word, Arguments name another command) = word ++ codes " " ++ name ++ codes " " ++ another
+usage_of (word, OneOrTwo name another command more) = word ++ codes " " ++ name ++ codes " [" ++ another ++ codes "]"
 
 -- the line for words that are no command: all commands, with a bar between each two
 abbrev pub usage_line : List ℕ

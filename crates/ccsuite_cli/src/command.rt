@@ -1,5 +1,5 @@
 ghost use Rattle.std.specs.Option.{option_copied};
-ghost use Rattle.std.specs.Prelude.{◌≡◌, ◌≤◌, [], ◌∷◌, IfSome, if◌then◌else◌, map, not, string_bytes, true};
+ghost use Rattle.std.specs.Prelude.{◌≡◌, ◌≤◌, [], ◌∷◌, IfSome, Some, None, if◌then◌else◌, map, not, string_bytes, true};
 ghost use Rattle.ccsuite_cli.specs.Command.{IsRunnable, command_of, countings, has_side_file, side_path, start_in, start_of};
 ghost use Rattle.cue_lists.specs.Fields.{named, number_within};
 ghost use Rattle.fit_commands.specs.Fitted.{most_late};
@@ -54,6 +54,9 @@ pub enum Command {
     ExportMcc(Counting, TimeCode),
     /// `fit N`: a cue list whose cues are shown as few frames late as they need, at most this many, 0 to 1,000.
     Fit(u32),
+    /// `fit N CUES`: a second cue list whose cues are shown as few frames late as they need beside the one of the side file, at most this
+    /// many, 0 to 1,000.
+    FitBeside(u32),
     /// `help`, and `help COMMAND`: a page of help.
     Help(Page),
     /// `version`: the program's version.
@@ -62,19 +65,34 @@ pub enum Command {
 
 /// The line for words that are no command.
 pub(crate) const USAGE: &[u8] =
-    b"usage: ccsuite pairs|build|decode|show FRAME|verify CUES|insert CUES|import [TIME]|export TIME|cues|load N|dual CUES|xds PACKETS|xds-show|conceal|convert|import-mcc|export-mcc RATE TIME|fit N|help|version\n";
+    b"usage: ccsuite pairs|build|decode|show FRAME|verify CUES|insert CUES|import [TIME]|export TIME|cues|load N|dual CUES|xds PACKETS|xds-show|conceal|convert|import-mcc|export-mcc RATE TIME|fit N [CUES]|help|version\n";
 
 /// The last frame that `show` can name.
 const LAST_FRAME: u64 = 4_294_967_294;
 
-/// The path of the side file that the words after the program's name give: the argument of a command that reads one, whatever it
-/// is; None where the words have no side file.
+/// The path of the side file that the words after the program's name give: the last argument of a command that reads one, whatever
+/// it is; None where the words have no side file.
 pub fn side_of(words: &[String]) -> Option<&str>
     ensures { option_copied result ≡ side_path (map string_bytes words.now) }
 {
     match words {
-        [_, path] if reads_side_file(read_command(words)) => Some(path.as_str()),
+        [word, path] => path_for(read_two(word.as_str(), path.as_str()), path.as_str()),
+        [word, one, path] => path_for(
+            read_three(word.as_str(), one.as_str(), path.as_str()),
+            path.as_str(),
+        ),
         _ => None,
+    }
+}
+
+/// The path, if the command reads a side file.
+fn path_for(command: Option<Command>, path: &str) -> Option<&str>
+    ensures { option_copied result ≡ if has_side_file command then Some path.now else None }
+{
+    if reads_side_file(command) {
+        Some(path)
+    } else {
+        None
     }
 }
 
@@ -84,7 +102,9 @@ fn reads_side_file(command: Option<Command>) -> bool
 {
     matches!(
         command,
-        Some(Command::Verify | Command::Insert | Command::Dual | Command::Xds)
+        Some(
+            Command::Verify | Command::Insert | Command::Dual | Command::Xds | Command::FitBeside(_)
+        )
     )
 }
 
@@ -156,7 +176,8 @@ fn read_two(word: &str, argument: &str) -> Option<Command>
     }
 }
 
-/// The command of a word and its two arguments: `export-mcc` with a rate and a time code that exists at it.
+/// The command of a word and its two arguments: `export-mcc` with a rate and a time code that exists at it, `fit` with a number of frames
+/// and the path of a side file, whatever it is.
 fn read_three(word: &str, one: &str, other: &str) -> Option<Command>
     ensures command { result ≡ command_of (word.now ∷ one.now ∷ other.now ∷ []) }
     ensures runnable { IsRunnable result }
@@ -167,6 +188,10 @@ fn read_three(word: &str, one: &str, other: &str) -> Option<Command>
                 Some(time) => Some(Command::ExportMcc(count, time)),
                 None => None,
             },
+            None => None,
+        },
+        "fit" => match read_late(one) {
+            Some(late) => Some(Command::FitBeside(late)),
             None => None,
         },
         _ => None,

@@ -11,7 +11,7 @@ use cc_base::{Sink, Source};
 use command_base::Status;
 use convert_commands::run_convert;
 use dual_commands::run_dual;
-use fit_commands::{run_build, run_cues, run_fit, run_pairs};
+use fit_commands::{run_build, run_cues, run_fit, run_fit_beside, run_pairs};
 use help_commands::{run_help, run_version};
 use insert_commands::run_insert;
 use load_commands::run_load;
@@ -122,6 +122,7 @@ pub fn perform<M: Source, S: Source, O: Sink>(
         Command::ImportMcc => run_import_mcc(alloc, input, out),
         Command::ExportMcc(count, time) => run_export_mcc(alloc, count, time, input, out),
         Command::Fit(late) => run_fit(alloc, late, input, out),
+        Command::FitBeside(late) => run_fit_beside(alloc, late, input, side, out),
         Command::Help(page) => run_help(page, out),
         Command::Version => run_version(out),
     }

@@ -20,7 +20,7 @@ fitted_more late list earlier (c ∷ cs) cue fitted frame are is =
     (are.0, are.1, fitted_more late list (with_shown are.0 c earlier) cs cue fitted frame are.2 is)
 
 -- they are as many
-length_hidden : (frame : ℕ) (on : Lane) (cues : List Cue) → length (hidden_in frame on cues) ≡ length cues
+pub length_hidden : (frame : ℕ) (on : Lane) (cues : List Cue) → length (hidden_in frame on cues) ≡ length cues
 length_hidden frame on [] = refl
 length_hidden frame on (cue ∷ cues) = at (on_lane on cue) (length_hidden frame on cues)
   where

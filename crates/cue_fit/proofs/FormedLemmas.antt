@@ -18,7 +18,7 @@ use Rattle.cue_fit.specs.Shown.{hidden_in, load_after, takes_place, with_shown}
 use Rattle.cue_fit.proofs.ShownLemmas.{formed_hidden, formed_shown}
 
 -- a LOAD after the former cue
-small_load : (on : Lane) (cue : Cue) (earlier : List Cue) → cue.load < 2 ^ 32 → AllByRecursion IsCueFormed earlier
+pub small_load : (on : Lane) (cue : Cue) (earlier : List Cue) → cue.load < 2 ^ 32 → AllByRecursion IsCueFormed earlier
     → load_after cue (find (on_lane on) earlier) < 2 ^ 32
 small_load on cue [] low formed = low
 small_load on cue (c ∷ cs) low formed = at (on_lane on c) (small_load on cue cs low formed.1)
@@ -31,7 +31,7 @@ small_load on cue (c ∷ cs) low formed = at (on_lane on c) (small_load on cue c
     at true rest = most (is_line21 cue.kind)
     at false rest = rest
 
-hidden_formed : (frame : ℕ) (on : Lane) (cues : List Cue) → frame < 2 ^ 32 → AllByRecursion IsCueFormed cues → AllByRecursion IsCueFormed (hidden_in frame on cues)
+pub hidden_formed : (frame : ℕ) (on : Lane) (cues : List Cue) → frame < 2 ^ 32 → AllByRecursion IsCueFormed cues → AllByRecursion IsCueFormed (hidden_in frame on cues)
 hidden_formed frame on [] small formed = tt
 hidden_formed frame on (c ∷ cs) small formed = at (on_lane on c) (hidden_formed frame on cs small formed.1)
   where

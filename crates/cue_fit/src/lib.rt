@@ -4,7 +4,7 @@
 pub use crate::fitting::{MOST_LATE, fit};
 pub use frame_scheduler::PlanFault;
 
-mod copies;
+pub mod copies;
 mod fitting;
-mod former;
-mod shown;
+pub mod former;
+pub mod shown;

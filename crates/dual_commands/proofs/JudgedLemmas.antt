@@ -45,7 +45,7 @@ share_decided (share ∷ shares) =
     inr (share.service, share.bytes, rw test refl)
 
 -- the second list is as the first asks, or has a first field that isn't so
-alike_decided : (one two : Listing) → AreAlike one two ⊎ ((at : OtherField) × IsJudged one two (Some at))
+pub alike_decided : (one two : Listing) → AreAlike one two ⊎ ((at : OtherField) × IsJudged one two (Some at))
 alike_decided one two = by_rate (rate_decided two.rate one.rate)
   where
     by_shares : two.rate ≡ one.rate → two.frames ≡ one.frames → AreAlike one two ⊎ ((at : OtherField) × IsJudged one two (Some at))
@@ -70,10 +70,10 @@ alike_decided one two = by_rate (rate_decided two.rate one.rate)
     by_rate (inr other) = inr (record { rec = 1; field = 3 }, inl (refl, refl, other))
 
 -- two lists that keep the rules are placed together, or refused with a status
-abbrev PairJudged : Listing → Listing → Type 0
+abbrev pub PairJudged : Listing → Listing → Type 0
 PairJudged one two = ((placed : DualPlacement) × GoTogether one two × IsDualPlaced one two placed) ⊎ ((answer : Status) × IsRefusedPair one two answer)
 
-pair_judged : (one two : Listing) → IsFormed one → IsRuled one → IsFormed two → IsRuled two → PairJudged one two
+pub pair_judged : (one two : Listing) → IsFormed one → IsRuled one → IsFormed two → IsRuled two → PairJudged one two
 pair_judged one two formed ruled second_formed second_ruled = by_alike (alike_decided one two)
   where
     by_verdict : GoTogether one two → (verdict : Verdict) → IsVerdict one two verdict → PairJudged one two

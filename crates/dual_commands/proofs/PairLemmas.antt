@@ -1,6 +1,5 @@
 -- Two lists that keep the rules are refused with one status, and with none where they are placed together.
-use Rattle.std.proofs.Common.{◌≡◌, ℕ, Some, true, false, ap, sym, subst, refl, ◌∙◌, ◌⊎◌, inl, inr, arith}
-use Rattle.std.specs.Prelude.{is_some}
+use Rattle.std.proofs.Common.{◌≡◌, ℕ, Some, ap, sym, subst, refl, ◌∙◌, ◌⊎◌, inl, inr, arith}
 use Rattle.cc_base.specs.declared.why.Why.TheVariants as why
 use Rattle.command_base.specs.declared.status.Place.TheVariants.{Field}
 use Rattle.command_base.specs.declared.status.Status.{Status}
@@ -13,35 +12,12 @@ use Rattle.dual_plans.specs.DualPlacement.{DualPlacement, IsDualPlaced}
 use Rattle.dual_plans.specs.FieldPlaces.{GoTogether}
 use Rattle.dual_plans.specs.Verdict.{Lacking, LackingBeside, Placed}
 use Rattle.dual_plans.proofs.PairDecided.{judged_once}
-use Rattle.dual_plans.specs.OtherList.{AreAlike, IsJudged}
+use Rattle.dual_plans.proofs.OtherListLemmas.{alike_unjudged, other_once}
+use Rattle.dual_plans.specs.OtherList.{IsJudged}
 use Rattle.dual_plans.specs.declared.other_list.OtherField.{OtherField}
 use Rattle.dual_plans.specs.Clashes.{IsFieldClash}
 
--- the place of a field of the second list
-same_place : (a b : OtherField) → a.rec ≡ b.rec → a.field ≡ b.field → a ≡ b
-same_place a b rec field = ap (λ r. record { rec = r; field = a.field }) rec ∙ ap (λ f. record { rec = b.rec; field = f }) field
-
 module _ (one two : Listing) where
-  -- lists that are alike have none
-  pub alike_unjudged : (at : OtherField) → AreAlike one two → IsJudged one two (Some at) → ⊥
-  alike_unjudged at alike (inl rate) = rate.2 alike.rate
-  alike_unjudged at alike (inr (inl frames)) = frames.3 alike.frames
-  alike_unjudged at alike (inr (inr (second, first, rates, lengths, (service, shared)))) =
-      let none = ap (λ o. is_some o) (alike.unshared service) in
-      let wrong : false ≡ true = sym none ∙ shared in absurd (cc)
-
-  -- and others one
-  pub other_once : (a b : OtherField) → IsJudged one two (Some a) → IsJudged one two (Some b) → a ≡ b
-  other_once a b (inl p) (inl q) = same_place a b (p.0 ∙ sym q.0) (p.1 ∙ sym q.1)
-  other_once a b (inl p) (inr (inl q)) = absurd (p.2 q.2)
-  other_once a b (inl p) (inr (inr q)) = absurd (p.2 q.2)
-  other_once a b (inr (inl p)) (inl q) = absurd (q.2 p.2)
-  other_once a b (inr (inl p)) (inr (inl q)) = same_place a b (p.0 ∙ sym q.0) (p.1 ∙ sym q.1)
-  other_once a b (inr (inl p)) (inr (inr q)) = absurd (p.3 q.3)
-  other_once a b (inr (inr p)) (inl q) = absurd (q.2 p.2)
-  other_once a b (inr (inr p)) (inr (inl q)) = absurd (q.3 p.3)
-  other_once a b (inr (inr p)) (inr (inr q)) = same_place a b (p.0 ∙ sym q.0) (p.1 ∙ sym q.1)
-
   -- they clash at one pair of cues first
   pub clash_once : (a b : RuleFault) → Clashes one two a → Clashes one two b → a ≡ b
   clash_once a b p q =
@@ -70,7 +46,7 @@ module _ (one two : Listing) where
 
   -- placed lists have no cause
   causeless : (placed : DualPlacement) (answer : Status) → GoTogether one two → IsDualPlaced one two placed → Cause answer → ⊥
-  causeless placed answer together is (inl judged) = alike_unjudged judged.0 together.alike judged.1
+  causeless placed answer together is (inl judged) = alike_unjudged one two judged.0 together.alike judged.1
   causeless placed answer together is (inr (inl clash)) = together.apart clash.0.cue clash.1.first clash.1.least.clashes
   causeless placed answer together is (inr (inr (inl lacks))) = judged_once one two together (Placed placed) (Lacking lacks.0) is lacks.2
   causeless placed answer together is (inr (inr (inr lacks))) = judged_once one two together (Placed placed) (LackingBeside lacks.0) is lacks.2
@@ -81,19 +57,19 @@ module _ (one two : Listing) where
   -- two causes are one
   same_cause : (a b : Status) → Cause a → Cause b → a ≡ b
   same_cause a b (inl p) (inl q) =
-      p.2 ∙ ap (λ (at : OtherField). status.Malformed (Field at.rec at.field) why.OtherList) (other_once p.0 q.0 p.1 q.1) ∙ sym q.2
-  same_cause a b (inl p) (inr (inl q)) = absurd (alike_unjudged p.0 q.1.alike p.1)
-  same_cause a b (inl p) (inr (inr (inl q))) = absurd (alike_unjudged p.0 q.1.alike p.1)
-  same_cause a b (inl p) (inr (inr (inr q))) = absurd (alike_unjudged p.0 q.1.alike p.1)
-  same_cause a b (inr (inl p)) (inl q) = absurd (alike_unjudged q.0 p.1.alike q.1)
+      p.2 ∙ ap (λ (at : OtherField). status.Malformed (Field at.rec at.field) why.OtherList) (other_once one two p.0 q.0 p.1 q.1) ∙ sym q.2
+  same_cause a b (inl p) (inr (inl q)) = absurd (alike_unjudged one two p.0 q.1.alike p.1)
+  same_cause a b (inl p) (inr (inr (inl q))) = absurd (alike_unjudged one two p.0 q.1.alike p.1)
+  same_cause a b (inl p) (inr (inr (inr q))) = absurd (alike_unjudged one two p.0 q.1.alike p.1)
+  same_cause a b (inr (inl p)) (inl q) = absurd (alike_unjudged one two q.0 p.1.alike q.1)
   same_cause a b (inr (inl p)) (inr (inl q)) = p.2 ∙ ap status.Rule (clash_once p.0 q.0 p.1 q.1) ∙ sym q.2
   same_cause a b (inr (inl p)) (inr (inr (inl q))) = absurd (q.1.apart p.0.cue p.1.first p.1.least.clashes)
   same_cause a b (inr (inl p)) (inr (inr (inr q))) = absurd (q.1.apart p.0.cue p.1.first p.1.least.clashes)
-  same_cause a b (inr (inr (inl p))) (inl q) = absurd (alike_unjudged q.0 p.1.alike q.1)
+  same_cause a b (inr (inr (inl p))) (inl q) = absurd (alike_unjudged one two q.0 p.1.alike q.1)
   same_cause a b (inr (inr (inl p))) (inr (inl q)) = absurd (p.1.apart q.0.cue q.1.first q.1.least.clashes)
   same_cause a b (inr (inr (inl p))) (inr (inr (inl q))) = p.3 ∙ ap status.NoRoom (judged_once one two p.1 (Lacking p.0) (Lacking q.0) p.2 q.2) ∙ sym q.3
   same_cause a b (inr (inr (inl p))) (inr (inr (inr q))) = absurd (judged_once one two p.1 (Lacking p.0) (LackingBeside q.0) p.2 q.2)
-  same_cause a b (inr (inr (inr p))) (inl q) = absurd (alike_unjudged q.0 p.1.alike q.1)
+  same_cause a b (inr (inr (inr p))) (inl q) = absurd (alike_unjudged one two q.0 p.1.alike q.1)
   same_cause a b (inr (inr (inr p))) (inr (inl q)) = absurd (p.1.apart q.0.cue q.1.first q.1.least.clashes)
   same_cause a b (inr (inr (inr p))) (inr (inr (inl q))) = absurd (judged_once one two p.1 (LackingBeside p.0) (Lacking q.0) p.2 q.2)
   same_cause a b (inr (inr (inr p))) (inr (inr (inr q))) = p.3 ∙ ap status.NoRoomBeside (judged_once one two p.1 (LackingBeside p.0) (LackingBeside q.0) p.2 q.2) ∙ sym q.3

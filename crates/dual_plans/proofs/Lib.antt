@@ -25,3 +25,4 @@ pub mod DualBlocksLemmas
 pub mod SentLemmas
 pub mod SendableLemmas
 pub mod DualPairsLemmas
+pub mod OtherListLemmas

@@ -4,3 +4,6 @@ pub use Rattle.cue_list_commands.specs.ListVerdict
 pub use Rattle.cue_list_commands.specs.Output
 pub mod FitVerdict
 pub mod FitLaws
+pub mod FitBesideStatus
+pub mod FitBesideVerdict
+pub mod FitBesideLaws

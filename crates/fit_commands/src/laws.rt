@@ -1,4 +1,5 @@
 //! Laws of what `fit` answers: functions that do nothing, with the laws as their contracts.
+ghost use Rattle.fit_commands.specs.FitBesideLaws.{FittedGoesBeside};
 ghost use Rattle.fit_commands.specs.FitLaws.{AcceptedIsFitted, EveryListIsFitted, FitRefusalIsOne, FittedIsAccepted, FittedIsNotRefused, FittingIsOne};
 
 /// The law that what is written of a fitted list is accepted, where it keeps to the limit of a list's bytes.
@@ -29,4 +30,9 @@ pub fn every_list_is_fitted()
 /// The law that a list which is accepted is fitted as it is: the output is what `cues` puts.
 pub fn accepted_is_fitted()
     ensures { AcceptedIsFitted }
+{}
+
+/// The law that what is written of a list which is fitted beside a first one goes beside it: `dual` takes both.
+pub fn fitted_goes_beside()
+    ensures { FittedGoesBeside }
 {}

@@ -10,7 +10,7 @@ author
   build                 the words of a cue list, an ancillary packet a frame
   pairs                 its byte pairs, a line a frame
   cues                  the list itself, as it is written
-  fit N                 a list, its cues shown as few frames late as they need
+  fit N [CUES]          a list, its cues shown as few frames late as they need
   dual CUES             the words of two lists, the second on CC2 and CC4
   xds PACKETS           the words of a list with packets of extended data
 look
@@ -84,18 +84,20 @@ example:
 
 /// The page on `fit`.
 pub const FIT_PAGE: &[u8] = b"\
-ccsuite fit N < LIST.csv > FITTED.csv
+ccsuite fit N [CUES] < LIST.csv > FITTED.csv
 
-reads:  a cue list
+reads:  a cue list; with CUES first the cue list in that file, beside which the
+  input is to stand on CC2 and CC4
 takes:  N, 0 to 1000: the most frames that a cue may be shown late
 writes: the list as cues writes it, with each cue that has no room shown as few
   frames later as it needs; a caption back to back with it is hidden then
-status: 5 limit, 6 malformed, 7 rule; 8 no room: the first cue for which none
-  of the N frames after its SHOW will do; 2 read fault, 3 write fault, 4 out
-  of memory
+status: 5 limit, 6 malformed, 7 rule, each of CUES if that is at fault; 8 no
+  room: the first cue for which none of the N frames after its SHOW will do;
+  11 no room in CUES; 2 read fault, 3 write fault, 4 out of memory
 
-example:
+examples:
   ccsuite fit 45 < list.csv > fitted.csv
+  ccsuite fit 45 english.csv < spanish.csv > beside.csv
 ";
 
 /// The page on `dual`.

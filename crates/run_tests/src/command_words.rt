@@ -6,7 +6,7 @@ use std::io::ErrorKind;
 use std::test::Fail;
 
 #[test]
-fn verify_insert_dual_and_xds_name_a_side_file(rt: HostRuntime) -> Result<(), Fail> {
+fn verify_insert_dual_xds_and_fit_name_a_side_file(rt: HostRuntime) -> Result<(), Fail> {
     const LINES: &[(&str, Option<&str>)] = &[
         ("verify|list.csv", Some("list.csv")),
         ("insert|list.csv", Some("list.csv")),
@@ -16,6 +16,9 @@ fn verify_insert_dual_and_xds_name_a_side_file(rt: HostRuntime) -> Result<(), Fa
         ("xds|packets.csv", Some("packets.csv")),
         ("xds", None),
         ("xds-show|packets.csv", None),
+        ("fit|45|list.csv", Some("list.csv")),
+        ("fit|45", None),
+        ("fit|1001|list.csv", None),
         ("verify", None),
         ("verify|a|b", None),
         ("show|3", None),

@@ -137,6 +137,18 @@ returns-in-Fit-clause-answer g c = rw c.in-Fit.is c.run_fit.ensures
 pub returns-in-Fit-clause-untouched : goal.returns-in-Fit-clause-untouched
 returns-in-Fit-clause-untouched g c = rw c.in-Fit.is tt
 
+pub run_fit_beside-requires : goal.run_fit_beside-requires
+run_fit_beside-requires g c = rw c.in-FitBeside.is at c.requires
+
+pub returns-in-FitBeside-clause-answer : goal.returns-in-FitBeside-clause-answer
+returns-in-FitBeside-clause-answer g c = rw c.in-FitBeside.is c.run_fit_beside.ensures.answer
+
+pub returns-in-FitBeside-clause-untouched : goal.returns-in-FitBeside-clause-untouched
+returns-in-FitBeside-clause-untouched g c = rw c.in-FitBeside.is c.run_fit_beside.ensures.untouched
+
+pub returns-in-FitBeside-clause-side : goal.returns-in-FitBeside-clause-side
+returns-in-FitBeside-clause-side g c = rw c.in-FitBeside.is (λ none. cc)
+
 pub returns-in-Help-clause-answer : goal.returns-in-Help-clause-answer
 returns-in-Help-clause-answer g c = rw c.in-Help.is (c.run_help.ensures _).0
 

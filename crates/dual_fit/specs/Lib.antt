@@ -1,0 +1,4 @@
+pub mod Timed
+pub mod FittedBeside
+pub mod Tries
+pub mod FitLaws
