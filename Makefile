@@ -129,6 +129,7 @@ bench: build/ccsuite $(LIBRARY)
 	bench/dtvcc_codes.sh
 	bench/services.sh
 	bench/scc.sh
+	bench/fit.sh
 	bench/dual.sh
 	bench/xds.sh
 	bench/convert.sh
