@@ -7,7 +7,7 @@ _ccsuite() {
         compopt -o default 2> /dev/null
     elif ((COMP_CWORD == 1)); then
         COMPREPLY=($(compgen -W 'build pairs cues fit dual xds decode show conceal xds-show verify insert import export import-mcc export-mcc convert load help version' -- "$word"))
-    elif ((COMP_CWORD == 2)) && [[ ${COMP_WORDS[1]} == @(verify|insert|dual|xds) ]] || ((COMP_CWORD == 3)) && [[ ${COMP_WORDS[1]} == fit ]]; then
+    elif [[ "$COMP_CWORD ${COMP_WORDS[1]}" == @(2 verify|2 insert|2 dual|2 xds|3 fit) ]]; then
         compopt -o filenames 2> /dev/null
         mapfile -t COMPREPLY < <(compgen -f -- "$word")
     elif ((COMP_CWORD == 2)) && [[ ${COMP_WORDS[1]} == help ]]; then
